@@ -8,6 +8,8 @@ use Rattle.lzk_expr.specs.Texts.{begins, number_of}
 use Rattle.lzk_expr.specs.Tokens.{Token, Name, Key, word_token, plain_token, number_token, is_digit}
 use Rattle.lzk_expr.specs.Sources.{is_short, is_shallow}
 use Rattle.lzk_expr.specs.Readers.{keeps_bounds}
+use Rattle.lzk_expr.specs.SymbolForms.{left_bounds}
+use Rattle.lzk_expr.specs.declared.rules.Depth.{Depth}
 use Rattle.lzk_expr.proofs.Tables.{same_bytes}
 use Rattle.lzk_expr.proofs.Inner.{word_passes}
 
@@ -62,8 +64,16 @@ word_shallow w n ts =
     (either_shallow (bytes_eq w (codes "let")) (Key keys.Let) _ n ts refl (either_shallow (bytes_eq w (codes "assert")) (Key keys.Assert) (plain_token w) n ts refl
     (either_shallow (begins is_digit w) (number_token (number_of w)) (Name w) n ts (number_shallow (number_of w) n ts) refl)))))
 
-pub word_keeps : (w : List ℕ) (n : ℕ) (ts : List Token) → is_short (word_token w) ≡ true → keeps_bounds n (word_token w ∷ ts) ≡ keeps_bounds n ts
+word_keeps : (w : List ℕ) (n : ℕ) (ts : List Token) → is_short (word_token w) ≡ true → keeps_bounds n (word_token w ∷ ts) ≡ keeps_bounds n ts
 word_keeps w n ts h = ap₂ (λ (a b : Bool). (a && list_all is_short ts) && b) h (word_shallow w n ts)
 
-pub word_breaks : (w : List ℕ) (n : ℕ) (ts : List Token) → is_short (word_token w) ≡ false → keeps_bounds n (word_token w ∷ ts) ≡ false
+word_breaks : (w : List ℕ) (n : ℕ) (ts : List Token) → is_short (word_token w) ≡ false → keeps_bounds n (word_token w ∷ ts) ≡ false
 word_breaks w n ts h = ap (λ (a : Bool). (a && list_all is_short ts) && is_shallow n (word_token w ∷ ts)) h
+
+pub behind_short : (w : List ℕ) (depth : Option Depth) (ts : List Token) → is_short (word_token w) ≡ true → left_bounds depth (word_token w ∷ ts) ≡ left_bounds depth ts
+behind_short w None ts h = refl
+behind_short w (Some depth) ts h = word_keeps w depth.count ts h
+
+pub behind_long : (w : List ℕ) (depth : Option Depth) (ts : List Token) → is_short (word_token w) ≡ false → left_bounds depth (word_token w ∷ ts) ≡ false
+behind_long w None ts h = refl
+behind_long w (Some depth) ts h = word_breaks w depth.count ts h

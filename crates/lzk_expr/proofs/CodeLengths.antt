@@ -28,7 +28,6 @@ some_token symbol.Times = (token.Times, refl)
 some_token symbol.Open = (token.Open, refl)
 some_token symbol.Close = (token.Close, refl)
 some_token symbol.Equals = (token.Equals, refl)
-some_token symbol.Other = (token.Other, refl)
 
 -- symbols are some tokens
 pub some_tokens : (ss : List Symbol) → (ts : List Token) × AreTold ss ts

@@ -130,7 +130,6 @@ first_name symbol.Times t ts h = ap (λ (u : Token). names_among (u ∷ ts)) h
 first_name symbol.Open t ts h = ap (λ (u : Token). names_among (u ∷ ts)) h
 first_name symbol.Close t ts h = ap (λ (u : Token). names_among (u ∷ ts)) h
 first_name symbol.Equals t ts h = ap (λ (u : Token). names_among (u ∷ ts)) h
-first_name symbol.Other t ts h = ap (λ (u : Token). names_among (u ∷ ts)) h
 
 pub told_names : (ss : List Symbol) (ts : List Token) → AreTold ss ts → names_among ts ≡ symbol_names ss
 told_names [] [] h = refl

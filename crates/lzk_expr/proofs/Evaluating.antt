@@ -10,8 +10,8 @@ use Rattle.lzk_field.specs.Ring.{Ops}
 use Rattle.lzk_field.specs.Sums.{minus}
 use Rattle.lzk_expr.specs.Trees as tree
 use Rattle.lzk_expr.specs.SourceValues.{Given, given, signed, value_of, parts_value, factors_value, assert_values}
-use Rattle.lzk_expr.specs.View.{expr_of, part_list, expr_list, statements_of}
-use Rattle.lzk_expr.proofs.Trees.{neg_is, sum_is, product_is, parts_at, factors_at}
+use Rattle.lzk_expr.specs.View.{expr_of, part_list, expr_list, statement_of, statements_of}
+use Rattle.lzk_expr.proofs.Trees.{neg_is, sum_is, product_is, parts_at, factors_at, statements_at}
 
 -- ---- one expression
 
@@ -62,6 +62,13 @@ assert_taken o element ps qs found lets seen also new x y d e f behind same too 
     let rest = assert_values (given o element ps qs lets) behind in
     ap (λ l. l ++ rest) pushed ∙ append_assoc found (d ∷ []) rest
     ∙ ap (λ v. found ++ v ∷ rest) (less ∙ ap₂ (minus o) (left ∙ ap (λ ls. value_of (given o element ps qs ls) e) same) (right ∙ ap (λ ls. value_of (given o element ps qs ls) f) too))
+
+-- what was found behind one more statement
+pub one_taken : {A : Type 0} (g h : Given A) (found new whole : List A) (ms : List Statement) (i : ℕ) (m : Statement) → i < length ms → m ≡ get_or ms i m
+    → ((behind : List tree.Statement) → new ++ assert_values h behind ≡ found ++ assert_values g (statement_of m ∷ behind))
+    → found ++ assert_values g (statements_of (drop i ms)) ≡ whole → new ++ assert_values h (statements_of (drop (i + 1) ms)) ≡ whole
+one_taken g h found new whole ms i m lt is taken before =
+    taken (statements_of (drop (i + 1) ms)) ∙ ap (λ ss. found ++ assert_values g ss) (sym (statements_at ms i m lt is)) ∙ before
 
 pub all_asserts : {A : Type 0} (g : Given A) (found whole : List A) (ms : List Statement) (i : ℕ) → length ms ≤ i → found ++ assert_values g (statements_of (drop i ms)) ≡ whole → found ≡ whole
 all_asserts g found whole ms i le e = sym (append-nil found) ∙ ap (λ (l : List Statement). found ++ assert_values g (statements_of l)) (sym (drop_all i ms le)) ∙ e

@@ -98,6 +98,13 @@ half_back (x ∷ xs) hs h e ready a same closed =
 outer_back : (old rest : List held.Half) (h : held.Half) → old ≡ rest ++ h ∷ [] → outer_of old ≡ half_of h ∷ outer_of rest
 outer_back old rest h e = ap outer_of e ∙ ap reverse (map_push half_of rest h) ∙ reverse-append (map half_of rest) (half_of h ∷ [])
 
+abbrev unready : List Half → Half → Reads
+unready outer now = record { outer = outer; now = now; ready = false }
+
+-- a parenthesis was opened
+pub opened_now : (old new : List held.Half) (h now dest : held.Half) → new ≡ old ++ h ∷ [] → h ≡ now → half_of dest ≡ empty → unready (outer_of new) (half_of dest) ≡ unready (half_of now ∷ outer_of old) empty
+opened_now old new h now dest e same put = ap₂ unready (outer_back new old h e ∙ ap (λ x. half_of x ∷ outer_of old) same) put
+
 pub closed_back : (old rest : List held.Half) (before inner now dest : held.Half) (x : Expr) (ready : Bool) (a new : Reads) → old ≡ rest ++ before ∷ [] → inner ≡ now → dest ≡ before → x ≡ added (parts_of_half (half_of inner))
     → half_closed (outer_of old) (added (parts_of_half (half_of now))) ≡ Some a → new ≡ with_atom_read (record { outer = outer_of rest; now = half_of dest; ready = ready }) x → new ≡ a
 closed_back old rest before inner now dest x ready a new pop same put is h made =

@@ -21,7 +21,7 @@ use Rattle.lzk_expr.specs.Grammar.{Line, FieldLine, PublicLine, PrivateLine, Let
 use Rattle.lzk_expr.specs.Trees.{Statement, DeclarePublic, DeclarePrivate, name_of, line_means}
 use Rattle.lzk_expr.specs.Sources.{Before, after, is_short, is_shallow, is_few, is_new, is_below, is_field, keeps_limits, line_names, line_numbers, first_keyword, keyword_read, form_read, LineReads}
 use Rattle.lzk_expr.specs.Readers.{StepReads}
-use Rattle.lzk_expr.specs.Heads.{Heading, OfPublic, OfPrivate, OfLet, heading, headings, head_of, heads_of, symbol_names, symbol_headings, is_fair}
+use Rattle.lzk_expr.specs.Heads.{Heading, OfPublic, OfPrivate, OfLet, heading, headings, head_of, heads_of, symbol_names, let_headings, symbol_headings, is_fair}
 use Rattle.lzk_expr.specs.Coders.{TakesTextLine}
 use Rattle.lzk_expr.proofs.Inner.{is_filled, filled_some, tokens_filled}
 use Rattle.lzk_expr.proofs.Taken.{among_names}
@@ -103,6 +103,34 @@ heads_pushed f old new head w rest all e is h =
     ap (λ (hs : List Heading). hs ++ map f rest) (ap heads_of e ∙ map_push head_of old head ∙ ap (λ (x : Heading). heads_of old ++ x ∷ []) is)
     ∙ append_assoc (heads_of old) (f w ∷ []) (map f rest) ∙ h
 
+-- the first symbol, and what no head is made of
+pub none_of_length : (ss : List Symbol) → length ss ≡ 0 → ss ≡ []
+none_of_length [] h = refl
+none_of_length (s ∷ ss) h = absurd cc
+
+pub first_symbol : (ss : List Symbol) (s : Symbol) → 0 < length ss → get_or ss 0 (symbol.Number 0) ≡ s → ss ≡ s ∷ drop 1 ss
+first_symbol [] s some h = absurd (omega (arith, some))
+first_symbol (x ∷ xs) s some h = ap (λ (y : Symbol). y ∷ xs) h
+
+pub no_let_heads : (ss : List Symbol) → ((w : Bor (List ℕ)) → get_or ss 0 (symbol.Number 0) ≡ symbol.Name w → ⊥) → let_headings ss ≡ []
+no_let_heads [] h = refl
+no_let_heads (symbol.Name w ∷ ss) h = absurd (h w refl)
+no_let_heads (s ∷ ss) h = refl
+
+pub no_heads : (ss : List Symbol) → ((k : Keyword) → get_or ss 0 (symbol.Number 0) ≡ symbol.Key k → ⊥) → symbol_headings ss ≡ []
+no_heads [] h = refl
+no_heads (symbol.Key k ∷ ss) h = absurd (h k refl)
+no_heads (s ∷ ss) h = refl
+
+pub none_more : (heads : List Head) (hs : List Heading) → hs ≡ [] → heads_of heads ≡ heads_of heads ++ hs
+none_more heads hs e = sym (append-nil (heads_of heads)) ∙ ap (λ (l : List Heading). heads_of heads ++ l) (sym e)
+
+pub one_head : (old new : List Head) (head : Head) (hs : List Heading) → new ≡ old ++ head ∷ [] → hs ≡ head_of head ∷ [] → heads_of new ≡ heads_of old ++ hs
+one_head old new head hs e is = ap heads_of e ∙ map_push head_of old head ∙ ap (λ (l : List Heading). heads_of old ++ l) (sym is)
+
+pub more_heads : (old new : List Head) (made hs : List Heading) → heads_of new ≡ heads_of old ++ made → hs ≡ made → heads_of new ≡ heads_of old ++ hs
+more_heads old new made hs e is = e ∙ ap (λ (l : List Heading). heads_of old ++ l) (sym is)
+
 pub heads_end : (f : List ℕ → Heading) (heads : List Head) (ss : List Symbol) (i : ℕ) (all : List Heading) → length ss ≤ i → heads_of heads ++ map f (symbol_names (drop i ss)) ≡ all → heads_of heads ≡ all
 heads_end f heads ss i all le h = sym (append-nil (heads_of heads)) ∙ sym (ap (λ (ws : List (List ℕ)). heads_of heads ++ map f ws) (at_drop_all symbol_names ss i le)) ∙ h
 
@@ -120,7 +148,6 @@ key_told symbol.Times k h = absurd cc
 key_told symbol.Open k h = absurd cc
 key_told symbol.Close k h = absurd cc
 key_told symbol.Equals k h = absurd cc
-key_told symbol.Other k h = absurd cc
 
 name_told : (s : Symbol) (w : List ℕ) → Tells s (token.Name w) → (v : Bor (List ℕ)) × (s ≡ symbol.Name v) × (v.now ≡ w)
 name_told (symbol.Name v) w h = (v, refl, cc)
@@ -134,7 +161,6 @@ name_told symbol.Times w h = absurd cc
 name_told symbol.Open w h = absurd cc
 name_told symbol.Close w h = absurd cc
 name_told symbol.Equals w h = absurd cc
-name_told symbol.Other w h = absurd cc
 
 -- the symbols of a keyword and what is behind it
 behind_key : (ss : List Symbol) (k : Keyword) (ts : List Token) → AreTold ss (token.Key k ∷ ts) → (rest : List Symbol) × (ss ≡ symbol.Key k ∷ rest) × AreTold rest ts

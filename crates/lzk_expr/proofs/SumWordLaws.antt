@@ -95,8 +95,26 @@ and_true : (b : Bool) → (b && true) ≡ b
 and_true true = refl
 and_true false = refl
 
-and_is : (a b c d : Bool) → a ≡ c → b ≡ d → (a && (b && true)) ≡ (c && d)
-and_is a b c d e f = ap₂ (λ (x y : Bool). x && y) e (and_true b ∙ f)
+and_turned : (a b : Bool) → (a && b) ≡ (b && a)
+and_turned true b = sym (and_true b)
+and_turned false true = refl
+and_turned false false = refl
+
+and_is : (a b c d : Bool) → a ≡ c → (b && c) ≡ d → (a && (b && true)) ≡ d
+and_is a b c d e f = ap₂ (λ (x y : Bool). x && y) e (and_true b) ∙ and_turned c b ∙ f
+
+abbrev plain : Word → Bool → Bool → TokenWord
+plain w known below = record { word = w; number = 0; known = known; below = below }
+
+-- a word that is no number's
+pub plain_is : {S : Type 0} (f : FieldId) (m : HashMap (List ℕ) Binding S) (place : ℕ) (known below : Bool) (t u : Token) (w : Word) (x : TokenWord) → x ≡ plain w known below → t ≡ u
+    → ((numbers : List ℕ) → code_word numbers w ≡ Item (step_in m u)) → token_known m u ≡ true → token_below f u ≡ true → IsWordOf f m t place known below x
+plain_is f m place known below t u w x is same code k b =
+    subst (λ (y : TokenWord). IsWordOf f m t place known below y) (sym is) (subst (λ (v : Token). IsWordOf f m v place known below (plain w known below)) (sym same) (record {
+      word_is = λ old behind at. code _;
+      known_is = ap (λ (z : Bool). z && known) k;
+      below_is = ap (λ (z : Bool). z && below) b;
+    }))
 
 module _ {S : Type 0} (f : FieldId) (m : HashMap (List ℕ) Binding S) where
   pub begun : (symbols : List Symbol) (words : List Word) (numbers : List ℕ) (ts : List Token) → AreTold symbols ts
@@ -116,9 +134,9 @@ module _ {S : Type 0} (f : FieldId) (m : HashMap (List ℕ) Binding S) where
 
   module _ (ow nw : List Word) (on nn : List ℕ) where
     -- the word of one more token
-    added_word : (before : List Token) (t : Token) (x : TokenWord) (place : ℕ) (more : List ℕ) → place ≡ length nn → more ≡ nn ++ numbers_of x.word x.number
-        → AreWordsOf m before ow nw on nn → IsWordOf f m t place x → AreWordsOf m (before ++ t ∷ []) ow (nw ++ x.word ∷ []) on more
-    added_word before t x place more at e a w = record {
+    added_word : (before : List Token) (t : Token) (x : TokenWord) (place : ℕ) (more : List ℕ) (known below : Bool) → place ≡ length nn → more ≡ nn ++ numbers_of x.word x.number
+        → AreWordsOf m before ow nw on nn → IsWordOf f m t place known below x → AreWordsOf m (before ++ t ∷ []) ow (nw ++ x.word ∷ []) on more
+    added_word before t x place more known below at e a w = record {
       words = a.words ++ x.word ∷ [];
       words_are = ap (λ ws. ws ++ x.word ∷ []) a.words_are ∙ append_assoc ow a.words (x.word ∷ []);
       numbers = a.numbers ++ numbers_of x.word x.number;
@@ -146,7 +164,7 @@ module _ {S : Type 0} (f : FieldId) (m : HashMap (List ℕ) Binding S) where
             let e = first all s left b.behind at b.told in
             stopped e (ap (next b.reads) (other e.token e.tells) ∙ next_other b.reads)
 
-        module _ (x : TokenWord) (place : ℕ) (at_place : place ≡ length nn) (word_of : (t : Token) → Tells s t → IsWordOf f m t place x) where
+        module _ (x : TokenWord) (place : ℕ) (at_place : place ≡ length nn) (word_of : (t : Token) → Tells s t → IsWordOf f m t place known below x) where
           pub no_syntax : ((numbers : List ℕ) (step : Step) → code_word numbers x.word ≡ Item step → None ≡ next_syntax y step) → sum_read held_number (bound m) ts ≡ None
           no_syntax none =
               let e = first all s left b.behind at b.told in
@@ -156,9 +174,8 @@ module _ {S : Type 0} (f : FieldId) (m : HashMap (List ℕ) Binding S) where
 
           pub one_more : (z : Syntax) (words : List Word) (more : List ℕ) → words ≡ nw ++ x.word ∷ [] → more ≡ nn ++ numbers_of x.word x.number
               → ((numbers : List ℕ) (step : Step) → code_word numbers x.word ≡ Item step → Some z ≡ next_syntax y step)
-              → (now now_below : Bool) → now ≡ (known && x.known) → now_below ≡ (below && x.below)
-              → IsBegun f m left z ow words on more now now_below ts
-          one_more z words more pushed put goes now now_below now_is now_below_is =
+              → IsBegun f m left z ow words on more x.known x.below ts
+          one_more z words more pushed put goes =
               let e = first all s left b.behind at b.told in
               let w = word_of e.token e.tells in
               let step = some_step b.reads (step_in m e.token) z
@@ -171,9 +188,9 @@ module _ {S : Type 0} (f : FieldId) (m : HashMap (List ℕ) Binding S) where
                 reads = step.0;
                 read = read_next held_number (bound m) nothing_read b.reads b.before [] e.token (Some step.0) b.read step.1 ∙ all_none held_number (bound m) step.0;
                 syntax_is = step.2;
-                known_is = list_all-append (token_known m) b.before (e.token ∷ []) ∙ and_is _ _ _ _ b.known_is w.known_is ∙ sym now_is;
-                below_is = list_all-append (token_below f) b.before (e.token ∷ []) ∙ and_is _ _ _ _ b.below_is w.below_is ∙ sym now_below_is;
-                added = subst (λ ws. AreWordsOf m (b.before ++ e.token ∷ []) ow ws on more) (sym pushed) (added_word b.before e.token x place more at_place put b.added w);
+                known_is = list_all-append (token_known m) b.before (e.token ∷ []) ∙ and_is _ _ _ _ b.known_is w.known_is;
+                below_is = list_all-append (token_below f) b.before (e.token ∷ []) ∙ and_is _ _ _ _ b.below_is w.below_is;
+                added = subst (λ ws. AreWordsOf m (b.before ++ e.token ∷ []) ow ws on more) (sym pushed) (added_word b.before e.token x place more known below at_place put b.added w);
               }
 
       -- ---- behind the last token

@@ -41,7 +41,6 @@ name_as symbol.Times t h = ap is_name h
 name_as symbol.Open t h = ap is_name h
 name_as symbol.Close t h = ap is_name h
 name_as symbol.Equals t h = ap is_name h
-name_as symbol.Other t h = ap is_name h
 
 inner_as : (s : Symbol) (t : Token) → Tells s t → is_inner t ≡ not (is_equals_symbol s)
 inner_as (symbol.Number n) t h = ap is_inner h
@@ -55,7 +54,6 @@ inner_as symbol.Times t h = ap is_inner h
 inner_as symbol.Open t h = ap is_inner h
 inner_as symbol.Close t h = ap is_inner h
 inner_as symbol.Equals t h = ap is_inner h
-inner_as symbol.Other t h = ap is_inner h
 
 equals_is : (s : Symbol) (t : Token) → Tells s t → is_equals_symbol s ≡ true → t ≡ Equals
 equals_is symbol.Equals t h e = h
@@ -69,7 +67,6 @@ equals_is symbol.Minus t h e = absurd cc
 equals_is symbol.Times t h e = absurd cc
 equals_is symbol.Open t h e = absurd cc
 equals_is symbol.Close t h e = absurd cc
-equals_is symbol.Other t h e = absurd cc
 
 module _ (q : Symbol → Bool) (p : Token → Bool) (same : (s : Symbol) (t : Token) → Tells s t → p t ≡ q s) where
   tests_as : (ss : List Symbol) (ts : List Token) → AreTold ss ts → list_all q ss ≡ list_all p ts
@@ -105,7 +102,6 @@ no_key symbol.Times t ts other h = ap (λ (u : Token). first_keyword (u ∷ ts))
 no_key symbol.Open t ts other h = ap (λ (u : Token). first_keyword (u ∷ ts)) h
 no_key symbol.Close t ts other h = ap (λ (u : Token). first_keyword (u ∷ ts)) h
 no_key symbol.Equals t ts other h = ap (λ (u : Token). first_keyword (u ∷ ts)) h
-no_key symbol.Other t ts other h = ap (λ (u : Token). first_keyword (u ∷ ts)) h
 
 first_is : (x y : Token) (xs ys : List Token) → x ∷ xs ≡ y ∷ ys → x ≡ y
 first_is x y xs ys e = cc

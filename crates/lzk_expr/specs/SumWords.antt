@@ -1,5 +1,5 @@
 -- The words of an expression's tokens.
-use Rattle.std.specs.Prelude.{◌≡◌, ℕ, List, [], ◌∷◌, ◌++◌, map, length, Bool}
+use Rattle.std.specs.Prelude.{◌≡◌, ℕ, List, [], ◌∷◌, ◌++◌, map, length, Bool, ◌&&◌}
 use Rattle.std.specs.HashMap.{HashMap}
 use Rattle.lzk_expr.specs.declared.ast.FieldId.{FieldId}
 use Rattle.lzk_expr.specs.declared.names.Binding.{Binding}
@@ -22,13 +22,13 @@ numbers_of (words.Number i) n = n ∷ []
 numbers_of _ n = []
 
 -- The word of a token, whatever numbers come behind; and whether its name is known and its number is below the field's
--- size.
+-- size, as those before it are.
 pub record IsWordOf {S : Type 0} (f : FieldId) (m : HashMap (List ℕ) Binding S) (t : Token) (place : ℕ)
-    (x : TokenWord) : Type 0 where
+    (known below : Bool) (x : TokenWord) : Type 0 where
   pub word_is : (old behind : List ℕ) → length old ≡ place
       → code_word ((old ++ numbers_of x.word x.number) ++ behind) x.word ≡ Item (step_in m t)
-  pub known_is : token_known m t ≡ x.known
-  pub below_is : token_below f t ≡ x.below
+  pub known_is : (token_known m t && known) ≡ x.known
+  pub below_is : (token_below f t && below) ≡ x.below
 
 -- Behind the old words and numbers stand those of the tokens.
 abbrev pub AreWordsOf :

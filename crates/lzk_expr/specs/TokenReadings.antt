@@ -2,14 +2,8 @@
 use Rattle.std.specs.Prelude.{◌≡◌, ℕ, ◌≤◌, ◌^◌, List, [], ◌∷◌, Bool, true}
 use Rattle.lzk_expr.specs.Tokens.{Piece, Token, tokens, is_sign}
 use Rattle.lzk_expr.specs.Tokens as token
-use Rattle.lzk_expr.specs.declared.tokens.Piece.{Piece as Read}
-use Rattle.lzk_expr.specs.declared.tokens.Piece.TheVariants as read
 use Rattle.lzk_expr.specs.declared.tokens.Symbol.{Symbol}
 use Rattle.lzk_expr.specs.declared.tokens.Symbol.TheVariants as symbol
-
-abbrev pub piece_of : Read → Piece
-piece_of (read.Word w) = token.Word w.now
-piece_of (read.Sign b) = token.Sign b
 
 -- no byte that is of no token
 abbrev pub is_clean : Piece → Bool
@@ -29,7 +23,6 @@ Tells symbol.Times t = t ≡ token.Times
 Tells symbol.Open t = t ≡ token.Open
 Tells symbol.Close t = t ≡ token.Close
 Tells symbol.Equals t = t ≡ token.Equals
-Tells symbol.Other t = t ≡ token.Other
 
 -- symbols are these tokens, one by one
 abbrev pub AreTold : List Symbol → List Token → Type 0

@@ -2,14 +2,13 @@
 
 ghost use Rattle.std.specs.Prelude.{◌≡◌, ◌≤◌, ◌<◌, ◌+◌, ◌^◌, ◌&&◌, ◌||◌, ℕ, List, length};
 ghost use Rattle.std.specs.Prelude.{is_some, true, false};
-ghost use Rattle.std.specs.Prelude.{None, IfOk, OnOk, MatchOption, [], ◌∷◌};
-ghost use Rattle.lzk_expr.specs.Texts.{lines, first_line, first_content, content, IsLine};
+ghost use Rattle.std.specs.Prelude.{None, IfOk, OnOk, []};
+ghost use Rattle.lzk_expr.specs.Texts.{content};
 ghost use Rattle.lzk_profile.specs.Profile.{most_privates};
-ghost use Rattle.lzk_expr.specs.Tokens.{tokens, keeps_characters};
-ghost use Rattle.lzk_expr.specs.TokenReadings.{AreTold};
+ghost use Rattle.lzk_expr.specs.SymbolForms.{IsScanOf};
 ghost use Rattle.lzk_expr.specs.Sources.{Before, nothing_yet, is_field};
 ghost use Rattle.lzk_expr.specs.Table.{found};
-ghost use Rattle.lzk_expr.specs.Readers.{keeps_bounds, key_of, input_statement};
+ghost use Rattle.lzk_expr.specs.Readers.{key_of, input_statement};
 ghost use Rattle.lzk_expr.specs.Coders.{IsCoder, with_statement, TakesSymbols, TakesTextLine};
 ghost use Rattle.lzk_expr.specs.Coders.{input_count, has_room, used, broken_by, names_broken_by, refused_by};
 ghost use Rattle.lzk_expr.specs.declared.tokens.Keyword.TheVariants.{Field, Let, Assert};
@@ -17,9 +16,9 @@ ghost use Rattle.lzk_expr.specs.declared.tokens.Keyword.TheVariants.{Field, Let,
 use crate::ast::FieldId;
 use crate::code::Word;
 use crate::heads::Input;
-use crate::lex::lex_line;
 use crate::line_forms::{definition, field_of, first_keyword, halves};
 use crate::names::{Binding, Names};
+use crate::rules::Scan;
 use crate::source_fault::SourceKind;
 use crate::sum_words::{Marks, push_sum};
 use crate::tokens::{Keyword, Symbol};
@@ -58,26 +57,6 @@ fn broken(marks: Marks, twice: bool) -> Option<SourceKind>
     None
 }
 
-fn both(one: Marks, other: Marks) -> Marks
-    ensures { result ≡ record {
-      formed = one.formed && other.formed;
-      known = one.known && other.known;
-      below = one.below && other.below;
-    } }
-{
-    Marks {
-        formed: one.formed && other.formed,
-        known: one.known && other.known,
-        below: one.below && other.below,
-    }
-}
-
-fn either(x: bool, y: bool) -> bool
-    ensures { result ≡ (x || y) }
-{
-    x || y
-}
-
 // The first rule that a line of names breaks.
 fn names_broken(none: bool, twice: bool) -> Option<SourceKind>
     ensures { result ≡ names_broken_by none twice }
@@ -92,14 +71,7 @@ fn names_broken(none: bool, twice: bool) -> Option<SourceKind>
 }
 
 impl<'a> Coder<'a> {
-    pub fn new(alloc: Global) -> Coder<'a>
-        ensures holds { IsCoder result nothing_yet }
-        ensures used { used result ≡ 0 }
-    {
-        Coder::with_words(alloc, Vec::new(alloc))
-    }
-
-    // As `new`, with a list for the words.
+    // Nothing was read. The list is for the words.
     pub fn with_words(alloc: Global, words: Vec<Word>) -> Coder<'a>
         requires none { words.items ≡ [] }
         ensures holds { IsCoder result nothing_yet }
@@ -164,14 +136,14 @@ impl<'a> Coder<'a> {
     {
         match input {
             Input::Public => {
-                let known = self.names.declare(name, Binding::Public(self.publics))?;
-                self.publics += 1;
-                Ok(known)
+                let i = self.publics;
+                self.publics = i + 1;
+                self.names.declare(name, Binding::Public(i))
             }
             Input::Private => {
-                let known = self.names.declare(name, Binding::Private(self.privates))?;
-                self.privates += 1;
-                Ok(known)
+                let i = self.privates;
+                self.privates = i + 1;
+                self.names.declare(name, Binding::Private(i))
             }
         }
     }
@@ -190,8 +162,10 @@ impl<'a> Coder<'a> {
             let Symbol::Name(name) = *symbol else {
                 return Ok(Some(SourceKind::Syntax));
             };
-            let known = self.declare_input(input, name)?;
-            twice = either(twice, known);
+            let Ok(known) = self.declare_input(input, name) else {
+                return Err(AllocError);
+            };
+            twice = twice | known;
         }
         Ok(names_broken(symbols.is_empty(), twice))
     }
@@ -206,15 +180,19 @@ impl<'a> Coder<'a> {
         let Some((name, sum)) = definition(symbols) else {
             return Ok(Some(SourceKind::Syntax));
         };
-        let marks = push_sum(
+        let Ok(marks) = push_sum(
             field,
             &self.names,
             sum,
             Word::Define,
             &mut self.words,
             &mut self.numbers,
-        )?;
-        let twice = self.names.declare(name, Binding::Named(self.lets))?;
+        ) else {
+            return Err(AllocError);
+        };
+        let Ok(twice) = self.names.declare(name, Binding::Named(self.lets)) else {
+            return Err(AllocError);
+        };
         self.lets += 1;
         Ok(broken(marks, twice))
     }
@@ -230,24 +208,33 @@ impl<'a> Coder<'a> {
         let Some((lhs, rhs)) = halves(symbols) else {
             return Ok(Some(SourceKind::Syntax));
         };
-        let left = push_sum(
+        let Ok(left) = push_sum(
             field,
             &self.names,
             lhs,
             Word::Left,
             &mut self.words,
             &mut self.numbers,
-        )?;
-        let right = push_sum(
+        ) else {
+            return Err(AllocError);
+        };
+        let Ok(right) = push_sum(
             field,
             &self.names,
             rhs,
             Word::Right,
             &mut self.words,
             &mut self.numbers,
-        )?;
+        ) else {
+            return Err(AllocError);
+        };
         self.asserts += 1;
-        Ok(broken(both(left, right), false))
+        let both = Marks {
+            formed: left.formed & right.formed,
+            known: left.known & right.known,
+            below: left.below & right.below,
+        };
+        Ok(broken(both, false))
     }
 
     fn take_form(
@@ -287,52 +274,31 @@ impl<'a> Coder<'a> {
         None
     }
 
-    // Takes a line's symbols, where it is known whether they keep their bounds. A line with none is skipped.
-    fn take_line(
+    // Takes a line's symbols, where it is known what the line keeps, or answers the first rule that it breaks. A line
+    // with none is skipped.
+    pub fn take_line(
         &mut self,
-        bounded: bool,
+        scan: Scan,
         symbols: &[Symbol<'a>],
     ) -> Result<Option<SourceKind>, AllocError>
-        requires { used self.old + length symbols.now < 2 ^ 32 }
+        requires { scan.clean ≡ true → used self.old + length symbols.now < 2 ^ 32 }
         ensures takes { IfOk result (λ broken. (b : Before) (line : List ℕ) → IsCoder self.old b
-            → keeps_characters (content line) ≡ true → AreTold symbols.now (tokens (content line))
-            → bounded ≡ keeps_bounds 0 (tokens (content line)) → TakesTextLine b self.new line broken) }
+            → IsScanOf scan (content line) symbols.now → TakesTextLine b self.new line broken) }
+        ensures clean { IfOk result (λ broken. broken ≡ None → scan.clean ≡ true) }
         ensures used { OnOk result (used self.new ≤ used self.old + length symbols.now) }
     {
+        if !scan.clean {
+            return Ok(Some(SourceKind::Character));
+        }
         if symbols.is_empty() {
             return Ok(None);
         }
         let Some((keyword, rest)) = first_keyword(symbols) else {
             return Ok(Some(SourceKind::Keyword));
         };
-        if let Some(kind) = self.refused(bounded, keyword, rest) {
+        if let Some(kind) = self.refused(scan.bounded, keyword, rest) {
             return Ok(Some(kind));
         }
         self.take_form(keyword, rest)
-    }
-
-    // Takes the text's first line, or answers the first rule that it breaks, and answers what is behind its line
-    // feed. A line with nothing before its comment is skipped. The list is that of the line's tokens afterwards.
-    pub fn take(
-        &mut self,
-        symbols: &mut Vec<Symbol<'a>>,
-        text: &'a [u8],
-    ) -> Result<(Option<SourceKind>, Option<&'a [u8]>), AllocError>
-        requires { used self.old + length (first_line text.now) < 2 ^ 32 }
-        ensures takes { IfOk result (λ x. (b : Before) → IsCoder self.old b
-            → TakesTextLine b self.new (first_line text.now) x.0) }
-        ensures told { IfOk result (λ x. x.0 ≡ None
-            → AreTold symbols.new.items (tokens (first_content text.now))) }
-        ensures rest { IfOk result (λ x. MatchOption x.1 (lines text.now ≡ first_line text.now ∷ [])
-            (λ rest. IsLine text.now (first_line text.now) rest.now)) }
-        ensures used { OnOk result (used self.new ≤ used self.old + length (first_line text.now)) }
-    {
-        let (scan, rest) = lex_line(text, symbols)?;
-        if !scan.clean {
-            return Ok((Some(SourceKind::Character), rest));
-        }
-        let found: &[Symbol<'a>] = symbols;
-        let broken = self.take_line(scan.bounded, found)?;
-        Ok((broken, rest))
     }
 }

@@ -3,14 +3,15 @@
 ghost use Rattle.std.specs.Prelude.{◌≡◌, ◌++◌, ◌∷◌, [], List, OnOk};
 ghost use Rattle.lzk_expr.specs.Trees as tree;
 ghost use Rattle.lzk_expr.specs.View.{expr_of, statement_of, statements_of};
-ghost use Rattle.lzk_expr.specs.Codes.{AreCodeOf, code_words, nothing_coded};
+ghost use Rattle.lzk_expr.specs.Codes.{AreCodeOf, code_words};
 ghost use Rattle.lzk_expr.specs.Heads.{head_of, heads_of, heading, headings};
-ghost use Rattle.lzk_expr.specs.Growing.{IsGrown, all_exprs, exprs_in};
+ghost use Rattle.lzk_expr.specs.Growing.{all_exprs, exprs_in};
 
 use crate::ast::{Expr, Statement};
 use crate::code::Word;
 use crate::growing::Grower;
 use crate::heads::Head;
+use crate::lists::push;
 use std::alloc::{AllocError, Global};
 
 // The expression that ended last.
@@ -53,28 +54,12 @@ fn complete(
         → all_exprs ended.old.items ≡ exprs_in ss → OnOk result (statements_of statements.new.items ≡ ss) }
 {
     while let Some(head) = heads.pop() {
-        statements.push(completed(head, ended))?;
+        let Ok(()) = push(statements, completed(head, ended)) else {
+            return Err(AllocError);
+        };
     }
     statements.reverse();
     Ok(())
-}
-
-// Takes the code, and makes the statements with these heads of it.
-fn grow(
-    alloc: Global,
-    grower: &mut Grower,
-    words: &[Word],
-    numbers: &[u128],
-    heads: &mut Vec<Head>,
-    statements: &mut Vec<Statement>,
-) -> Result<(), AllocError>
-    requires { statements.old.items ≡ [] }
-    ensures { (ss : List tree.Statement) → IsGrown grower.old nothing_coded → heads_of heads.old.items ≡ headings ss
-        → AreCodeOf ss (code_words numbers.now words.now)
-        → OnOk result (statements_of statements.new.items ≡ ss) }
-{
-    grower.take_all(alloc, words, numbers)?;
-    complete(heads, &mut grower.ended, statements)
 }
 
 // Makes the statements with these heads and this code.
@@ -91,7 +76,15 @@ pub(crate) fn make_statements(
         → OnOk result (statements_of statements.new.items ≡ ss) }
 {
     let mut grower = Grower::new(alloc);
-    let made = grow(alloc, &mut grower, words, numbers, heads, statements);
-    drop(grower);
-    made
+    match grower.take_all(alloc, words, numbers) {
+        Ok(()) => {
+            let made = complete(heads, &mut grower.ended, statements);
+            drop(grower);
+            made
+        }
+        Err(e) => {
+            drop(grower);
+            Err(e)
+        }
+    }
 }

@@ -6,6 +6,7 @@ ghost use Rattle.lzk_expr.specs.SourceValues.{value_of, parts_value, factors_val
 ghost use Rattle.lzk_expr.specs.View.{expr_of, part_list, expr_list, statement_of, statements_of};
 
 use crate::ast::{Expr, Part, Statement};
+use crate::lists::push;
 use lzk_field::Field;
 use std::alloc::{AllocError, Global};
 
@@ -79,19 +80,18 @@ fn take_statement<F: Field>(
         (statement_of statement.now ∷ behind)) }
 {
     match statement {
-        Statement::Public(_) => {}
-        Statement::Private(_) => {}
+        Statement::Public(_) => Ok(()),
+        Statement::Private(_) => Ok(()),
         Statement::Let(_, expr) => {
             let x = value(public, private, lets, expr);
-            lets.push(x)?;
+            push(lets, x)
         }
         Statement::Assert(left, right) => {
             let x = value(public, private, lets, left);
             let y = value(public, private, lets, right);
-            found.push(x.sub(y))?;
+            push(found, x.sub(y))
         }
     }
-    Ok(())
 }
 
 // Left minus right, for each assert in order.
@@ -107,7 +107,10 @@ pub(crate) fn assert_values<F: Field>(
     let mut lets = Vec::new(alloc);
     let mut found = Vec::new(alloc);
     for i in 0..statements.len() {
-        take_statement(public, private, &statements[i], &mut lets, &mut found)?;
+        let taken = take_statement(public, private, &statements[i], &mut lets, &mut found);
+        let Ok(()) = taken else {
+            return Err(AllocError);
+        };
     }
     Ok(found)
 }

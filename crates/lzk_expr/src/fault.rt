@@ -3,7 +3,7 @@
 ghost use Rattle.std.specs.Prelude.{◌≡◌};
 ghost use Rattle.lzk_expr.specs.declared.fault.NumberError.TheVariants.{OutOfMemory};
 
-use std::alloc::{AllocError, AllocFailed};
+use std::alloc::AllocError;
 use thiserror::Error;
 
 /// The rule that a token breaks: it is no number, or not below the field's size; or there are fewer
@@ -61,14 +61,6 @@ impl From<AllocError> for NumberError {
     ghost from_gives = { λ _ e. e ≡ OutOfMemory };
 
     fn from(_e: AllocError) -> NumberError {
-        NumberError::OutOfMemory
-    }
-}
-
-impl<T: Drop> From<AllocFailed<T>> for NumberError {
-    ghost from_gives = { λ _ e. e ≡ OutOfMemory };
-
-    fn from(_e: AllocFailed<T>) -> NumberError {
         NumberError::OutOfMemory
     }
 }

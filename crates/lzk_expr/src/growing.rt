@@ -10,6 +10,7 @@ ghost use Rattle.lzk_expr.specs.Growing.{IsGrown, Ends};
 use crate::ast::Expr;
 use crate::code::Word;
 use crate::half::{empty, ended};
+use crate::lists::push;
 use crate::reads::{Reads, nothing_read};
 use std::alloc::{AllocError, Global};
 use std::mem;
@@ -46,9 +47,10 @@ impl Grower {
     {
         let now = mem::replace(&mut self.reads.now, empty(alloc));
         self.reads.ready = false;
-        let expr = ended(now)?;
-        self.ended.push(expr)?;
-        Ok(())
+        let Ok(expr) = ended(now) else {
+            return Err(AllocError);
+        };
+        push(&mut self.ended, expr)
     }
 
     // Takes a word, where there is a reading of it.
@@ -86,7 +88,9 @@ impl Grower {
             → words_read old (code_words numbers.now words.now) ≡ Some new → OnOk result (IsGrown self.new new) }
     {
         for word in words {
-            self.take(alloc, *word, numbers)?;
+            let Ok(()) = self.take(alloc, *word, numbers) else {
+                return Err(AllocError);
+            };
         }
         Ok(())
     }

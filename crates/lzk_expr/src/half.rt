@@ -6,6 +6,7 @@ ghost use Rattle.lzk_expr.specs.View.{expr_of, expr_list};
 ghost use Rattle.lzk_expr.specs.Halves.{half_of};
 
 use crate::ast::{Expr, Part};
+use crate::lists::push;
 use std::alloc::{AllocError, Global};
 use std::mem;
 
@@ -56,10 +57,11 @@ fn signed(alloc: Global, minus: bool, expr: Expr) -> Result<Expr, AllocError>
 pub(crate) fn take_atom(alloc: Global, half: &mut Half, atom: Expr) -> Result<(), AllocError>
     ensures { OnOk result (half_of half.new ≡ with_atom (half_of half.old) (expr_of atom)) }
 {
-    let atom = signed(alloc, half.negated, atom)?;
-    half.factors.push(atom)?;
+    let Ok(atom) = signed(alloc, half.negated, atom) else {
+        return Err(AllocError);
+    };
     half.negated = false;
-    Ok(())
+    push(&mut half.factors, atom)
 }
 
 // The product is a part; the next one has this sign.
@@ -67,13 +69,14 @@ pub(crate) fn end_product(alloc: Global, half: &mut Half, minus: bool) -> Result
     ensures { OnOk result (half_of half.new ≡ next_part (half_of half.old) minus) }
 {
     let factors = mem::replace(&mut half.factors, Vec::new(alloc));
-    half.parts.push(Part {
+    let expr = joined(factors);
+    let part = Part {
         minus: half.minus,
-        expr: joined(factors),
-    })?;
+        expr,
+    };
     half.minus = minus;
     half.negated = false;
-    Ok(())
+    push(&mut half.parts, part)
 }
 
 // The sum that was read.
@@ -90,9 +93,12 @@ pub(crate) fn ended(half: Half) -> Result<Expr, AllocError>
     if parts.is_empty() {
         return Ok(product);
     }
-    parts.push(Part {
+    let last = Part {
         minus,
         expr: product,
-    })?;
+    };
+    let Ok(()) = push(&mut parts, last) else {
+        return Err(AllocError);
+    };
     Ok(Expr::Sum(parts))
 }

@@ -5,6 +5,7 @@ ghost use Rattle.std.specs.List.{list_all};
 ghost use Rattle.lzk_expr.specs.Heads.{head_of, heads_of, input_heading, symbol_names, let_headings, symbol_headings, is_fair};
 
 use crate::ast::Name;
+use crate::lists::push;
 use crate::tokens::{Keyword, Symbol};
 use std::alloc::AllocError;
 
@@ -46,7 +47,9 @@ fn push_inputs(
 {
     for symbol in symbols {
         if let Symbol::Name(name) = *symbol {
-            heads.push(input_head(input, name))?;
+            let Ok(()) = push(heads, input_head(input, name)) else {
+                return Err(AllocError);
+            };
         }
     }
     Ok(())
@@ -56,11 +59,11 @@ fn push_let(symbols: &[Symbol<'_>], heads: &mut Vec<Head>) -> Result<(), AllocEr
     requires { list_all is_fair symbols.now ≡ true }
     ensures { OnOk result (heads_of heads.new.items ≡ heads_of heads.old.items ++ let_headings symbols.now) }
 {
-    match symbols.split_first() {
-        Some((Symbol::Name(name), _)) => {
-            heads.push(Head::Let(Name::new(name)))?;
-            Ok(())
-        }
+    if symbols.is_empty() {
+        return Ok(());
+    }
+    match symbols[0] {
+        Symbol::Name(name) => push(heads, Head::Let(Name::new(name))),
         _ => Ok(()),
     }
 }
@@ -70,14 +73,18 @@ pub(crate) fn push_heads(symbols: &[Symbol<'_>], heads: &mut Vec<Head>) -> Resul
     requires { list_all is_fair symbols.now ≡ true }
     ensures { OnOk result (heads_of heads.new.items ≡ heads_of heads.old.items ++ symbol_headings symbols.now) }
 {
-    match symbols.split_first() {
-        Some((Symbol::Key(Keyword::Public), rest)) => push_inputs(Input::Public, rest, heads),
-        Some((Symbol::Key(Keyword::Private), rest)) => push_inputs(Input::Private, rest, heads),
-        Some((Symbol::Key(Keyword::Let), rest)) => push_let(rest, heads),
-        Some((Symbol::Key(Keyword::Assert), _)) => {
-            heads.push(Head::Assert)?;
-            Ok(())
-        }
-        _ => Ok(()),
+    if symbols.is_empty() {
+        return Ok(());
+    }
+    let Symbol::Key(keyword) = symbols[0] else {
+        return Ok(());
+    };
+    let rest = &symbols[1..];
+    match keyword {
+        Keyword::Field => Ok(()),
+        Keyword::Public => push_inputs(Input::Public, rest, heads),
+        Keyword::Private => push_inputs(Input::Private, rest, heads),
+        Keyword::Let => push_let(rest, heads),
+        Keyword::Assert => push(heads, Head::Assert),
     }
 }

@@ -1,26 +1,65 @@
 //! The tokens of a text's first line, found once.
 
-ghost use Rattle.std.specs.Prelude.{◌≡◌, ◌≤◌, ◌+◌, List, ◌∷◌, length, drop, ◌||◌, [], IfOk, MatchOption};
+ghost use Rattle.std.specs.Prelude.{◌≡◌, ◌≤◌, ◌+◌, ◌∷◌, length, drop, ◌||◌, [], IfOk, MatchOption};
 ghost use Rattle.std.specs.List.{prefix_len};
 ghost use Rattle.lzk_expr.specs.Texts.{is_feed, is_hash, lines, first_line, first_content, IsLine};
-ghost use Rattle.lzk_expr.specs.Tokens.{Token, token_of, in_word};
-ghost use Rattle.lzk_expr.specs.TokenReadings.{piece_of};
+ghost use Rattle.lzk_expr.specs.Tokens.{in_word, word_token, sign_token, Open, Close};
 ghost use Rattle.lzk_expr.specs.SymbolForms.{left_bounds, IsScanOf};
 
-use crate::rules::{Depth, Scan, behind_piece, is_sign, unopened};
-use crate::tokens::{Piece, Symbol, in_word, sign_symbol, word_symbol};
+use crate::lists::push;
+use crate::rules::{Depth, Scan, is_short_word, unopened};
+use crate::tokens::{Symbol, in_word, sign_symbol, word_symbol};
 use crate::words::{is_blank, next_line};
 use std::alloc::AllocError;
 
-// The depth behind a piece, as long as each piece kept the bounds.
-fn behind_next(depth: Option<Depth>, piece: Piece<'_>) -> Option<Depth>
-    ensures { (behind : List Token)
-        → left_bounds depth (token_of (piece_of piece.entry) ∷ behind) ≡ left_bounds result behind }
+// The depth behind a word, as long as all tokens kept the bounds.
+fn behind_word(depth: Option<Depth>, word: &[u8]) -> Option<Depth>
+    ensures { (behind : _) → left_bounds depth (word_token word.now ∷ behind) ≡ left_bounds result behind }
+{
+    if is_short_word(word) {
+        return depth;
+    }
+    None
+}
+
+fn behind_open(depth: Option<Depth>) -> Option<Depth>
+    ensures { (behind : _) → left_bounds depth (Open ∷ behind) ≡ left_bounds result behind }
 {
     match depth {
-        Some(depth) => behind_piece(depth, piece),
+        Some(depth) => {
+            if depth.count >= 64 {
+                return None;
+            }
+            Some(Depth {
+                count: depth.count + 1,
+            })
+        }
         None => None,
     }
+}
+
+fn behind_close(depth: Option<Depth>) -> Option<Depth>
+    ensures { (behind : _) → left_bounds depth (Close ∷ behind) ≡ left_bounds result behind }
+{
+    match depth {
+        Some(depth) => Some(Depth {
+            count: depth.count.saturating_sub(1),
+        }),
+        None => None,
+    }
+}
+
+// The depth behind a sign, as long as all tokens kept the bounds.
+fn behind_sign(depth: Option<Depth>, sign: u8) -> Option<Depth>
+    ensures { (behind : _) → left_bounds depth (sign_token sign ∷ behind) ≡ left_bounds result behind }
+{
+    if sign == b'(' {
+        return behind_open(depth);
+    }
+    if sign == b')' {
+        return behind_close(depth);
+    }
+    depth
 }
 
 // Where the word ends that goes on from here.
@@ -62,8 +101,10 @@ fn lex_content<'a>(
         if in_word(b) {
             let end = word_end(text, at + 1);
             let word = &text[at..end];
-            symbols.push(word_symbol(word))?;
-            depth = behind_next(depth, Piece::Word(word));
+            let Ok(()) = push(symbols, word_symbol(word)) else {
+                return Err(AllocError);
+            };
+            depth = behind_word(depth, word);
             at = end;
             continue;
         }
@@ -71,15 +112,17 @@ fn lex_content<'a>(
             at += 1;
             continue;
         }
-        if !is_sign(b) {
+        let Some(symbol) = sign_symbol(b) else {
             let scan = Scan {
                 clean: ends_content(b),
                 bounded: depth.is_some(),
             };
             return Ok((scan, at));
-        }
-        symbols.push(sign_symbol(b))?;
-        depth = behind_next(depth, Piece::Sign(b));
+        };
+        let Ok(()) = push(symbols, symbol) else {
+            return Err(AllocError);
+        };
+        depth = behind_sign(depth, b);
         at += 1;
     }
     let scan = Scan {
@@ -99,7 +142,9 @@ pub(crate) fn lex_line<'a>(
     ensures rest { IfOk result (λ x. MatchOption x.1 (lines text.now ≡ first_line text.now ∷ [])
         (λ rest. IsLine text.now (first_line text.now) rest.now)) }
 {
-    let (scan, at) = lex_content(text, symbols)?;
+    let Ok((scan, at)) = lex_content(text, symbols) else {
+        return Err(AllocError);
+    };
     let (_, behind) = text.split_at(at);
     let (_, rest) = next_line(behind);
     Ok((scan, rest))

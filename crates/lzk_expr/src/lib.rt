@@ -36,6 +36,7 @@ mod key;
 mod laws;
 mod lex;
 mod line_forms;
+mod lists;
 mod names;
 mod numbers;
 mod parsing;

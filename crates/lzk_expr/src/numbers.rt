@@ -7,6 +7,7 @@ ghost use Rattle.lzk_expr.specs.declared.fault.NumberError.TheVariants.{OutOfMem
 
 use crate::digits::{Reading, number};
 use crate::fault::{NumberError, NumberFault, NumberKind};
+use crate::lists::push;
 use crate::text::Text;
 use crate::words::{content, next_line, next_word};
 use lzk_field::Field;
@@ -70,7 +71,11 @@ fn take_words<F: Field>(
     let mut rest = bytes;
     while let Some((word, after)) = next_word(rest) {
         match element(line, word, count, found.len()) {
-            Ok(x) => found.push(x)?,
+            Ok(x) => {
+                let Ok(()) = push(found, x) else {
+                    return Err(NumberError::OutOfMemory);
+                };
+            }
             Err(fault) => return Err(NumberError::Fault(fault)),
         }
         rest = after;
@@ -89,7 +94,10 @@ fn numbers<F: Field>(alloc: Global, text: &Text<'_>, count: u32) -> Result<Vec<F
     let mut line = 1u32;
     while let Some(behind) = left {
         let (now, after) = next_line(behind);
-        take_words(line, content(now), count, &mut found)?;
+        match take_words(line, content(now), count, &mut found) {
+            Ok(()) => {}
+            Err(e) => return Err(e),
+        }
         left = after;
         line += 1;
     }

@@ -14,6 +14,7 @@ use crate::ast::{FieldId, Statement};
 use crate::coder::Coder;
 use crate::completing::make_statements;
 use crate::heads::{Head, push_heads};
+use crate::lex::lex_line;
 use crate::reading::ended;
 use crate::source::Source;
 use crate::source_fault::{SourceError, SourceFault};
@@ -37,11 +38,19 @@ fn take_lines<'a>(
     let mut left = Some(text.bytes);
     let mut line = 1u32;
     while let Some(behind) = left {
-        let (broken, after) = coder.take(symbols, behind)?;
+        let Ok((scan, after)) = lex_line(behind, symbols) else {
+            return Err(SourceError::OutOfMemory);
+        };
+        let found: &[Symbol<'a>] = symbols;
+        let Ok(broken) = coder.take_line(scan, found) else {
+            return Err(SourceError::OutOfMemory);
+        };
         if let Some(kind) = broken {
             return Err(SourceError::Fault(SourceFault { line, kind }));
         }
-        push_heads(symbols, heads)?;
+        let Ok(()) = push_heads(found, heads) else {
+            return Err(SourceError::OutOfMemory);
+        };
         left = after;
         line += 1;
     }
@@ -65,8 +74,14 @@ fn take_source<'a>(
         (λ field. TakesSource text.now.bytes.now field coder.new (statements_of statements.new.items))
         (IsFirstSourceFault text.now.bytes.now) }
 {
-    let last = take_lines(coder, symbols, heads, text)?;
-    make_statements(alloc, &coder.words, &coder.numbers, heads, statements)?;
+    let last = match take_lines(coder, symbols, heads, text) {
+        Ok(last) => last,
+        Err(e) => return Err(e),
+    };
+    let made = make_statements(alloc, &coder.words, &coder.numbers, heads, statements);
+    let Ok(()) = made else {
+        return Err(SourceError::OutOfMemory);
+    };
     ended(coder, last)
 }
 
@@ -78,19 +93,25 @@ fn source(alloc: Global, text: &Text<'_>) -> Result<Source, SourceError>
     let mut symbols = Vec::new(alloc);
     let mut heads = Vec::new(alloc);
     let mut statements = Vec::new(alloc);
-    let mut coder = Coder::new(alloc);
-    let field = take_source(
+    let words = Vec::new(alloc);
+    let mut coder = Coder::with_words(alloc, words);
+    let taken = take_source(
         alloc,
         &mut coder,
         &mut symbols,
         &mut heads,
         &mut statements,
         text,
-    )?;
+    );
+    drop(heads);
+    drop(symbols);
     let publics = coder.publics;
     let privates = coder.privates;
     let asserts = coder.asserts;
-    Ok(Source::new(field, statements, publics, privates, asserts))
+    match taken {
+        Ok(field) => Ok(Source::new(field, statements, publics, privates, asserts)),
+        Err(e) => Err(e),
+    }
 }
 
 /// The source that a text of at most 4 MiB is, by the profile in docs/FORMATS.md, or the first line that

@@ -10,6 +10,7 @@ ghost use Rattle.lzk_expr.specs.Sources.{SourceText};
 ghost use Rattle.lzk_expr.specs.View.{expr_of, part_list, expr_list, statement_of, statements_of, tree_of};
 
 use crate::ast::{Expr, FieldId, Name, Part, Statement};
+use crate::lists::push;
 use crate::source::Source;
 use lzk_profile::FIELD_WORD;
 use std::alloc::{AllocError, Global};
@@ -89,8 +90,8 @@ impl Writer {
     }
 }
 
-fn print_name(names: &[&[u8]], i: u32, text: &mut Writer)
-    ensures { Writes (slice_index_or (bytes_of names.now) i []) text.old text.new }
+fn print_name(names: &Vec<&[u8]>, i: u32, text: &mut Writer)
+    ensures { Writes (slice_index_or (bytes_of names.now.items) i []) text.old text.new }
 {
     match names.get(i as usize) {
         Some(name) => text.write(name),
@@ -213,8 +214,7 @@ fn print_statement(alloc: Global, names: &NameLists<'_>, statement: &Statement, 
 fn push_name<'a>(names: &mut Vec<&'a [u8]>, name: &'a Name) -> Result<(), AllocError>
     ensures { OnOk result (bytes_of names.new.items ≡ bytes_of names.old.items ++ name.now ∷ []) }
 {
-    names.push(name.text())?;
-    Ok(())
+    push(names, name.text())
 }
 
 // Takes the name that a statement declares.
@@ -243,7 +243,9 @@ fn name_lists(alloc: Global, statements: &[Statement]) -> Result<NameLists<'_>, 
         lets: Vec::new(alloc),
     };
     for i in 0..statements.len() {
-        list_name(&statements[i], &mut names)?;
+        let Ok(()) = list_name(&statements[i], &mut names) else {
+            return Err(AllocError);
+        };
     }
     Ok(names)
 }
@@ -272,7 +274,9 @@ pub fn print(alloc: Global, source: &Source) -> Result<Vec<u8>, AllocError>
     ensures reads { IfOk result (λ v. SourceText v.items (tree_of source.now)) }
 {
     let statements = source.statements();
-    let names = name_lists(alloc, statements)?;
+    let Ok(names) = name_lists(alloc, statements) else {
+        return Err(AllocError);
+    };
     let mut text = Writer {
         text: Vec::new(alloc),
         lost: false,

@@ -13,34 +13,11 @@ ghost use Rattle.lzk_expr.specs.declared.source_fault.SourceError.TheVariants.{O
 use crate::ast::FieldId;
 use crate::code::Code;
 use crate::coder::Coder;
+use crate::lex::lex_line;
 use crate::source_fault::{SourceError, SourceFault, SourceKind};
 use crate::text::Text;
 use crate::tokens::Symbol;
 use std::alloc::Global;
-
-// Takes the text's lines, and answers the number of the last one.
-fn take_lines<'a>(
-    coder: &mut Coder<'a>,
-    symbols: &mut Vec<Symbol<'a>>,
-    text: &Text<'a>,
-) -> Result<u32, SourceError>
-    requires holds { IsCoder coder.old nothing_yet }
-    requires used { used coder.old ≡ 0 }
-    ensures { MatchResult result (λ last. TakesText text.now.bytes.now last coder.new)
-        (IsFirstSourceFault text.now.bytes.now) }
-{
-    let mut left = Some(text.bytes);
-    let mut line = 1u32;
-    while let Some(behind) = left {
-        let (broken, after) = coder.take(symbols, behind)?;
-        if let Some(kind) = broken {
-            return Err(SourceError::Fault(SourceFault { line, kind }));
-        }
-        left = after;
-        line += 1;
-    }
-    Ok(line - 1)
-}
 
 // The field of a text whose lines were taken, where the last one has this number.
 pub(crate) fn ended(coder: &Coder<'_>, last: u32) -> Result<FieldId, SourceError>
@@ -63,8 +40,8 @@ pub(crate) fn ended(coder: &Coder<'_>, last: u32) -> Result<FieldId, SourceError
     Ok(field)
 }
 
-// Takes the text, and answers its field.
-fn take_text<'a>(
+// Takes the text's lines, and answers its field.
+fn take_lines<'a>(
     coder: &mut Coder<'a>,
     symbols: &mut Vec<Symbol<'a>>,
     text: &Text<'a>,
@@ -74,8 +51,22 @@ fn take_text<'a>(
     ensures { MatchResult result (λ field. IsCodeOfText text.now.bytes.now (coded field coder.new))
         (IsFirstSourceFault text.now.bytes.now) }
 {
-    let last = take_lines(coder, symbols, text)?;
-    ended(coder, last)
+    let mut left = Some(text.bytes);
+    let mut line = 1u32;
+    while let Some(behind) = left {
+        let Ok((scan, after)) = lex_line(behind, symbols) else {
+            return Err(SourceError::OutOfMemory);
+        };
+        let Ok(broken) = coder.take_line(scan, symbols) else {
+            return Err(SourceError::OutOfMemory);
+        };
+        if let Some(kind) = broken {
+            return Err(SourceError::Fault(SourceFault { line, kind }));
+        }
+        left = after;
+        line += 1;
+    }
+    ended(coder, line - 1)
 }
 
 // The code of the source that the text is, or its fault.
@@ -83,15 +74,23 @@ fn code(alloc: Global, text: &Text<'_>) -> Result<Code, SourceError>
     ensures { MatchResult result (IsCodeOfText text.now.bytes.now) (IsFirstSourceFault text.now.bytes.now) }
 {
     // Most words have a space before them or behind.
-    let room = Vec::with_capacity(alloc, text.bytes.len() / 2)?;
+    let Ok(room) = Vec::with_capacity(alloc, text.bytes.len() / 2) else {
+        return Err(SourceError::OutOfMemory);
+    };
     let mut symbols = Vec::new(alloc);
     let mut coder = Coder::with_words(alloc, room);
-    let field = take_text(&mut coder, &mut symbols, text)?;
-    let publics = coder.publics;
-    let privates = coder.privates;
-    let words = coder.words;
-    let numbers = coder.numbers;
-    Ok(Code::new(field, publics, privates, words, numbers))
+    let taken = take_lines(&mut coder, &mut symbols, text);
+    drop(symbols);
+    match taken {
+        Ok(field) => {
+            let publics = coder.publics;
+            let privates = coder.privates;
+            let words = coder.words;
+            let numbers = coder.numbers;
+            Ok(Code::new(field, publics, privates, words, numbers))
+        }
+        Err(e) => Err(e),
+    }
 }
 
 /// The code of the source that a text of at most 4 MiB is, by the profile in docs/FORMATS.md, or the first line that

@@ -8,6 +8,7 @@ ghost use Rattle.lzk_expr.specs.Halves.{reads_of};
 
 use crate::ast::Expr;
 use crate::half::{Half, empty, end_product, ended, take_atom};
+use crate::lists::push;
 use std::alloc::{AllocError, Global};
 use std::mem;
 
@@ -35,25 +36,22 @@ impl Reads {
         ensures { OnOk result (reads_of self.new ≡ opened (reads_of self.old)) }
     {
         let before = mem::replace(&mut self.now, empty(alloc));
-        self.outer.push(before)?;
         self.ready = false;
-        Ok(())
+        push(&mut self.outer, before)
     }
 
     pub fn atom(&mut self, alloc: Global, expr: Expr) -> Result<(), AllocError>
         ensures { OnOk result (reads_of self.new ≡ with_atom_read (reads_of self.old) (expr_of expr)) }
     {
-        take_atom(alloc, &mut self.now, expr)?;
         self.ready = true;
-        Ok(())
+        take_atom(alloc, &mut self.now, expr)
     }
 
     pub fn part(&mut self, alloc: Global, minus: bool) -> Result<(), AllocError>
         ensures { OnOk result (reads_of self.new ≡ with_part (reads_of self.old) minus) }
     {
-        end_product(alloc, &mut self.now, minus)?;
         self.ready = false;
-        Ok(())
+        end_product(alloc, &mut self.now, minus)
     }
 
     // A minus is the sign of the next part where a product is there, and of the next atom otherwise.
@@ -77,7 +75,9 @@ impl Reads {
             return Ok(());
         };
         let inner = mem::replace(&mut self.now, before);
-        let expr = ended(inner)?;
+        let Ok(expr) = ended(inner) else {
+            return Err(AllocError);
+        };
         self.atom(alloc, expr)
     }
 }

@@ -1,6 +1,6 @@
 //! The words of an expression's tokens.
 
-ghost use Rattle.std.specs.Prelude.{◌≡◌, ◌≤◌, ◌<◌, ◌+◌, ◌^◌, ◌++◌, ◌&&◌, List, length, nat_lt, true, false};
+ghost use Rattle.std.specs.Prelude.{◌≡◌, ◌≤◌, ◌<◌, ◌+◌, ◌^◌, ◌++◌, ◌&&◌, List, ◌∷◌, [], length, nat_lt, true, false};
 ghost use Rattle.std.specs.Prelude.{None, Some, IfOk, OnOk, MatchOption, MatchBool};
 ghost use Rattle.lzk_expr.specs.Tokens.{Token};
 ghost use Rattle.lzk_expr.specs.TokenReadings.{Tells, AreTold};
@@ -13,8 +13,9 @@ ghost use Rattle.lzk_expr.specs.declared.code.Word.TheVariants.{Number};
 
 use crate::ast::FieldId;
 use crate::code::Word;
+use crate::lists::push;
 use crate::names::{Binding, Names};
-use crate::syntax::no_words;
+use crate::syntax::Syntax;
 use crate::tokens::Symbol;
 use lzk_profile::PRIME;
 use std::alloc::AllocError;
@@ -27,8 +28,8 @@ pub(crate) struct Marks {
     pub below: bool,
 }
 
-// A token's word, with its number if it is one; whether its name is declared, and whether its number is below the
-// field's size.
+// A token's word, with its number if it is one; whether its name and those before are declared, and whether its number
+// and those before are below the field's size.
 #[derive(Clone, Copy)]
 struct TokenWord {
     word: Word,
@@ -46,21 +47,15 @@ fn is_below(field: FieldId, n: u128) -> bool
     }
 }
 
-fn both(x: bool, y: bool) -> bool
-    ensures { result ≡ (x && y) }
-{
-    x && y
-}
-
 // The word of a step that is no number.
-fn plain_word(word: Word) -> TokenWord
-    ensures { result ≡ record { word = word; number = 0; known = true; below = true } }
+fn plain_word(word: Word, known: bool, below: bool) -> TokenWord
+    ensures { result ≡ record { word = word; number = 0; known = known; below = below } }
 {
     TokenWord {
         word,
         number: 0,
-        known: true,
-        below: true,
+        known,
+        below,
     }
 }
 
@@ -87,36 +82,47 @@ fn bound_word(binding: Binding) -> Word
     }
 }
 
-// The word of a token that may stand in an expression, where a number comes to this place. It is that of 0 for a large
+// The word of a token that may stand in an expression, where a number comes to this place, and where it is known
+// whether the names before are declared and the numbers before are below the field's size. It is that of 0 for a large
 // number and for an unknown name.
-fn word_of(field: FieldId, names: &Names<'_>, symbol: Symbol<'_>, place: u32) -> Option<TokenWord>
+fn word_of(
+    field: FieldId,
+    names: &Names<'_>,
+    symbol: Symbol<'_>,
+    place: u32,
+    known: bool,
+    below: bool,
+) -> Option<TokenWord>
     ensures { (t : Token) → Tells symbol.entry t → MatchOption result (step_in names.now.table t ≡ Other)
-        (IsWordOf field names.now.table t place) }
+        (IsWordOf field names.now.table t place known below) }
 {
     match symbol {
-        Symbol::Number(n) => Some(number_word(place, n, true, is_below(field, n))),
-        Symbol::Large => Some(number_word(place, 0, true, false)),
+        Symbol::Number(n) => Some(number_word(place, n, known, is_below(field, n) & below)),
+        Symbol::Large => Some(number_word(place, 0, known, false)),
         Symbol::Name(name) => match names.find(name) {
-            Some(binding) => Some(plain_word(bound_word(binding))),
-            None => Some(number_word(place, 0, false, true)),
+            Some(binding) => Some(plain_word(bound_word(binding), known, below)),
+            None => Some(number_word(place, 0, false, below)),
         },
-        Symbol::Plus => Some(plain_word(Word::Plus)),
-        Symbol::Minus => Some(plain_word(Word::Minus)),
-        Symbol::Times => Some(plain_word(Word::Times)),
-        Symbol::Open => Some(plain_word(Word::Open)),
-        Symbol::Close => Some(plain_word(Word::Close)),
+        Symbol::Plus => Some(plain_word(Word::Plus, known, below)),
+        Symbol::Minus => Some(plain_word(Word::Minus, known, below)),
+        Symbol::Times => Some(plain_word(Word::Times, known, below)),
+        Symbol::Open => Some(plain_word(Word::Open, known, below)),
+        Symbol::Close => Some(plain_word(Word::Close, known, below)),
         _ => None,
     }
 }
 
-// Puts the number of a word behind the others, if it is one's.
-fn put_number(next: TokenWord, numbers: &mut Vec<u128>) -> Result<(), AllocError>
-    ensures { OnOk result (numbers.new.items ≡ numbers.old.items ++ numbers_of next.word next.number) }
+// Puts a word behind the others, and its number behind the numbers, if it is one's.
+fn put(next: TokenWord, words: &mut Vec<Word>, numbers: &mut Vec<u128>) -> Result<(), AllocError>
+    ensures words { OnOk result (words.new.items ≡ words.old.items ++ next.word ∷ []) }
+    ensures numbers { OnOk result (numbers.new.items ≡ numbers.old.items ++ numbers_of next.word next.number) }
 {
     if let Word::Number(_) = next.word {
-        numbers.push(next.number)?;
+        let Ok(()) = push(numbers, next.number) else {
+            return Err(AllocError);
+        };
     }
-    Ok(())
+    push(words, next.word)
 }
 
 fn unformed() -> Marks
@@ -146,23 +152,30 @@ pub(crate) fn push_sum(
         (sum_read held_number (bound names.now.table) ts ≡ None)) }
     ensures few { OnOk result (length numbers.new.items ≤ length numbers.old.items + length symbols.now) }
 {
-    let mut syntax = no_words();
+    let mut syntax = Syntax {
+        depth: 0,
+        ready: false,
+        negated: false,
+    };
     let mut known = true;
     let mut below = true;
     for symbol in symbols {
-        let Some(next) = word_of(field, names, *symbol, numbers.len() as u32) else {
+        let Some(next) = word_of(field, names, *symbol, numbers.len() as u32, known, below) else {
             return Ok(unformed());
         };
         let Some(behind) = syntax.after(next.word) else {
             return Ok(unformed());
         };
-        put_number(next, numbers)?;
-        words.push(next.word)?;
-        known = both(known, next.known);
-        below = both(below, next.below);
+        let Ok(()) = put(next, words, numbers) else {
+            return Err(AllocError);
+        };
+        known = next.known;
+        below = next.below;
         syntax = behind;
     }
-    words.push(end)?;
+    let Ok(()) = push(words, end) else {
+        return Err(AllocError);
+    };
     Ok(Marks {
         formed: syntax.is_whole(),
         known,

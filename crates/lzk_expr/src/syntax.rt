@@ -2,32 +2,20 @@
 
 ghost use Rattle.std.specs.Prelude.{◌≡◌, ◌+◌, ◌<◌, ◌≤◌, ◌^◌, true, false, IfSome};
 ghost use Rattle.lzk_expr.specs.Codes.{code_word, Item};
-ghost use Rattle.lzk_expr.specs.Meanings.{nothing_read};
-ghost use Rattle.lzk_expr.specs.Syntaxes.{syntax_of, next_syntax, needs_step, goes_on_step, is_whole};
+ghost use Rattle.lzk_expr.specs.Syntaxes.{next_syntax, needs_step, goes_on_step, is_whole};
 
 use crate::code::Word;
 
 // How many parentheses are open, whether a product is there, and whether a minus stands before the next atom.
 #[derive(Clone, Copy)]
 pub(crate) struct Syntax {
-    pub depth: u32,
+    pub depth: usize,
     pub ready: bool,
     pub negated: bool,
 }
 
-// The syntax before the first word.
-pub(crate) fn no_words() -> Syntax
-    ensures { result ≡ syntax_of nothing_read }
-{
-    Syntax {
-        depth: 0,
-        ready: false,
-        negated: false,
-    }
-}
-
 // A product is there.
-fn product(depth: u32) -> Syntax
+fn product(depth: usize) -> Syntax
     ensures { result ≡ record { depth = depth; ready = true; negated = false } }
 {
     Syntax {
@@ -38,7 +26,7 @@ fn product(depth: u32) -> Syntax
 }
 
 // An atom is to come, and whether a minus stands before it.
-fn expected(depth: u32, negated: bool) -> Syntax
+fn expected(depth: usize, negated: bool) -> Syntax
     ensures { result ≡ record { depth = depth; ready = false; negated = negated } }
 {
     Syntax {

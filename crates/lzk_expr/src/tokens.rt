@@ -1,7 +1,7 @@
 //! The tokens of a line.
 
-ghost use Rattle.std.specs.Prelude.{◌≡◌, false};
-ghost use Rattle.lzk_expr.specs.Tokens.{is_digit, in_word, word_token, plain_token, sign_token};
+ghost use Rattle.std.specs.Prelude.{◌≡◌, false, is_some, IfSome};
+ghost use Rattle.lzk_expr.specs.Tokens.{is_digit, in_word, word_token, plain_token, sign_token, is_sign};
 ghost use Rattle.lzk_expr.specs.TokenReadings.{Tells};
 
 use crate::digits::{Reading, number};
@@ -15,13 +15,6 @@ pub enum Keyword {
     Private,
     Let,
     Assert,
-}
-
-/// A word, or a byte that is in no word and no blank.
-#[derive(Clone, Copy)]
-pub(crate) enum Piece<'a> {
-    Word(&'a [u8]),
-    Sign(u8),
 }
 
 /// A token as it is read.
@@ -38,7 +31,6 @@ pub(crate) enum Symbol<'a> {
     Open,
     Close,
     Equals,
-    Other,
 }
 
 pub(crate) fn is_digit(b: u8) -> bool
@@ -122,17 +114,19 @@ pub(crate) fn word_symbol(word: &[u8]) -> Symbol<'_>
     plain_symbol(word)
 }
 
+// The token that a byte is alone, if it is a sign.
 #[inline(always)]
-pub(crate) fn sign_symbol(b: u8) -> Symbol<'static>
-    ensures { Tells result (sign_token b) }
+pub(crate) fn sign_symbol(b: u8) -> Option<Symbol<'static>>
+    ensures signs { is_some result ≡ is_sign b }
+    ensures tells { IfSome result (λ symbol. Tells symbol (sign_token b)) }
 {
     match b {
-        b'+' => Symbol::Plus,
-        b'-' => Symbol::Minus,
-        b'*' => Symbol::Times,
-        b'(' => Symbol::Open,
-        b')' => Symbol::Close,
-        b'=' => Symbol::Equals,
-        _ => Symbol::Other,
+        b'+' => Some(Symbol::Plus),
+        b'-' => Some(Symbol::Minus),
+        b'*' => Some(Symbol::Times),
+        b'(' => Some(Symbol::Open),
+        b')' => Some(Symbol::Close),
+        b'=' => Some(Symbol::Equals),
+        _ => None,
     }
 }

@@ -16,7 +16,7 @@ loop-head-preserved c = λ ss h e.
     let l = at.invariant ss h e in
     let k = next_last ss at.heads.items rest at.ended.items at.statements.items head l c.in-Some.ensures.items in
     let made = c.completed.ensures (exprs_in k.front) k.last (sym k.last_is) (last_ended ss at.heads.items at.ended.items at.statements.items (heads_of rest) (head_of head) l k) in
-    one_made ss at.heads.items rest at.ended.items c.completed.new.ended.items at.statements.items c.push.new.self.items head c.completed.result l k made.0 made.1 c.in_ok-push.ensures.items
+    one_made ss at.heads.items rest at.ended.items c.completed.new.ended.items at.statements.items c.push.new.list.items head c.completed.result l k made.0 made.1 c.in-Ok.ensures
 
 pub returns : goal.returns
 returns c = λ ss h e.

@@ -1,5 +1,9 @@
-use Rattle.std.proofs.Common.{◌≡◌, ◌∙◌, sym, ap, arith}
-use Rattle.lzk_expr.specs.SourceValues.{signed, given}
+use Rattle.std.proofs.Common.{◌≡◌, ◌∙◌, List, drop, length, sym, ap, arith}
+use Rattle.std.proofs.lemmas.List.{drop_all}
+use Rattle.lzk_expr.specs.declared.ast.Expr.{Expr}
+use Rattle.lzk_expr.specs.declared.ast.Part.{Part}
+use Rattle.lzk_expr.specs.View.{part_list, expr_list}
+use Rattle.lzk_expr.specs.SourceValues.{signed, given, parts_value, factors_value}
 use Rattle.lzk_expr.proofs.Trees.{number_is, public_is, private_is, named_is}
 use Rattle.lzk_expr.proofs.Evaluating.{valued, neg_valued, sum_valued, product_valued, factor_before, part_before}
 use Rattle.lzk_expr.proofs.evaluate.+value.Goals as goal
@@ -50,3 +54,47 @@ value-returns-in-Sum g t c = sum_valued (given g.F.Field.ops g.F.Field.coding.el
 
 pub value-returns-in-Product : goal.value-returns-in-Product
 value-returns-in-Product g t c = product_valued (given g.F.Field.ops g.F.Field.coding.element c.args.public.now c.args.private.now c.args.lets.now) c.args.expr.now c.in-Product.factors c.deref-in-Product.result.now c.product.result c.in-Product.is c.deref-in-Product.ensures.value c.product.ensures
+
+pub product-loop-i-init : goal.product-loop-i-init
+product-loop-i-init g t c =
+    let xs = c.args.factors.now in
+    record {
+      within = omega arith;
+      total = c.one-total.ensures ∙ sym (ap (λ (l : List Expr). factors_value (given g.F.Field.ops g.F.Field.coding.element c.args.public.now c.args.private.now c.args.lets.now) (expr_list l)) (drop_all (length xs) xs (omega arith)));
+    }
+
+pub product-overflow_sub-i : goal.product-overflow_sub-i
+product-overflow_sub-i g t c = c.loop-i-test.true
+
+pub product-bounds-factors-i : goal.product-bounds-factors-i
+product-bounds-factors-i g t c = omega (arith, c.loop-i.invariant.within, c.loop-i-test.true)
+
+pub product-loop-i-smaller : goal.product-loop-i-smaller
+product-loop-i-smaller g t c = omega (arith, c.loop-i-test.true)
+
+pub product-returns : goal.product-returns
+product-returns g t c =
+    let none : c.loop-i.i ≡ 0 = omega (arith, c.loop-i-test.false) in
+    c.loop-i.invariant.total ∙ ap (λ k. factors_value (given g.F.Field.ops g.F.Field.coding.element c.args.public.now c.args.private.now c.args.lets.now) (expr_list (drop k c.args.factors.now))) none
+
+pub sum-loop-i-init : goal.sum-loop-i-init
+sum-loop-i-init g t c =
+    let xs = c.args.parts.now in
+    record {
+      within = omega arith;
+      total = c.zero-total.ensures ∙ sym (ap (λ (l : List Part). parts_value (given g.F.Field.ops g.F.Field.coding.element c.args.public.now c.args.private.now c.args.lets.now) (part_list l)) (drop_all (length xs) xs (omega arith)));
+    }
+
+pub sum-overflow_sub-i : goal.sum-overflow_sub-i
+sum-overflow_sub-i g t c = c.loop-i-test.true
+
+pub sum-bounds-parts-i : goal.sum-bounds-parts-i
+sum-bounds-parts-i g t c = omega (arith, c.loop-i.invariant.within, c.loop-i-test.true)
+
+pub sum-loop-i-smaller : goal.sum-loop-i-smaller
+sum-loop-i-smaller g t c = omega (arith, c.loop-i-test.true)
+
+pub sum-returns : goal.sum-returns
+sum-returns g t c =
+    let none : c.loop-i.i ≡ 0 = omega (arith, c.loop-i-test.false) in
+    c.loop-i.invariant.total ∙ ap (λ k. parts_value (given g.F.Field.ops g.F.Field.coding.element c.args.public.now c.args.private.now c.args.lets.now) (part_list (drop k c.args.parts.now))) none

@@ -7,4 +7,4 @@ use Rattle.lzk_expr.proofs.half.ended.Goals as goal
 pub returns : goal.returns
 returns c =
     let h = c.args.half in
-    sum_ended h.parts.items h.minus (expr_list h.factors.items) c.joined-product.result c.push.new.self (λ e. grind (arith, nat_tests)) c.joined-product.ensures c.in_ok-push.ensures.items
+    sum_ended h.parts.items h.minus (expr_list h.factors.items) c.joined-product.result c.push.new.list (λ e. grind (arith, nat_tests)) c.joined-product.ensures c.in-Ok.ensures

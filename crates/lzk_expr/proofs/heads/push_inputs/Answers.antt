@@ -3,7 +3,7 @@ use Rattle.lzk_expr.specs.Heads.{Heading, heads_of, input_heading, symbol_names}
 use Rattle.lzk_expr.proofs.CodeTaken.{name_left, no_name_left}
 use Rattle.lzk_expr.proofs.HeadLaws.{fair_first, fair_rest, heads_pushed, heads_end}
 use Rattle.lzk_expr.proofs.heads.push_inputs.Goals as goal
-use Rattle.lzk_expr.proofs.heads.push_inputs.Goals.{in-Name+in_ok-push, in_default}
+use Rattle.lzk_expr.proofs.heads.push_inputs.Goals.{in-Name+in-Ok, in_default}
 
 pub input_head-requires : goal.input_head-requires
 input_head-requires c =
@@ -19,12 +19,12 @@ loop-symbol-preserved c =
     let rest : List (List ℕ) = symbol_names (drop (l.symbol-index + 1) ss) in
     let fair = fair_rest ss l.symbol-index l.invariant.fair c.loop-symbol-test.true in
     elim c.match-symbol.branch [
-      | in-Name+in_ok-push w ↦ record {
+      | in-Name+in-Ok w ↦ record {
         fair = fair;
         pushed =
             let named = name_left ss l.symbol-index w.in-Name.name c.loop-symbol-test.true w.in-Name.is in
             let before : heads_of l.heads.items ++ map f (w.in-Name.name.now ∷ rest) ≡ all = sym (ap (λ (ws : List (List ℕ)). heads_of l.heads.items ++ map f ws) named) ∙ l.invariant.pushed in
-            heads_pushed f l.heads.items c.match-symbol.heads.items w.input_head.result w.in-Name.name.now rest all (ap (λ v. v.items) w.heads-is ∙ w.in_ok-push.ensures.items) w.input_head.ensures before;
+            heads_pushed f l.heads.items c.match-symbol.heads.items w.input_head.result w.in-Name.name.now rest all (ap (λ v. v.items) w.heads-is ∙ w.in-Ok.ensures) w.input_head.ensures before;
       }
       | in_default w ↦ record {
         fair = fair;

@@ -22,9 +22,9 @@ loop-at-preserved-then-in_word c =
     record {
       within = c.word_end-end.ensures.within;
       passed = word_length xs l.at end c.loop-at-test.true word c.word_end-end.ensures.end (length (first_content xs)) l.invariant.passed;
-      found = found_more (first_content xs) (first_content (drop l.at xs)) (first_content (drop end xs)) l.symbols.items c.push.new.self.items c.word_symbol.result (Word (take (end - l.at) (drop l.at xs))) l.depth c.behind_next-depth.result l.invariant.found
+      found = found_more (first_content xs) (first_content (drop l.at xs)) (first_content (drop end xs)) l.symbols.items c.push.new.list.items c.word_symbol.result (Word (take (end - l.at) (drop l.at xs))) l.depth c.behind_word-depth.result l.invariant.found
           (word_here xs l.at end c.loop-at-test.true word c.word_end-end.ensures.end)
-          refl c.word_symbol.ensures c.in_ok-push.ensures.items c.behind_next-depth.ensures;
+          refl c.word_symbol.ensures c.in-Ok.ensures c.behind_word-depth.ensures;
     }
 
 pub loop-at-preserved-then-is_blank : goal.loop-at-preserved-then-is_blank
@@ -42,30 +42,30 @@ pub loop-at-preserved : goal.loop-at-preserved
 loop-at-preserved c =
     let l = c.loop-at in
     let xs = c.args.text.now in
-    let sign = sym c.is_sign.ensures ∙ c.if-not-is_sign.false in
+    let sign = sym c.in-Some.ensures.signs in
     record {
       within = omega (arith, c.loop-at-test.true);
       passed = sign_length xs l.at c.loop-at-test.true sign (length (first_content xs)) l.invariant.passed;
-      found = found_more (first_content xs) (first_content (drop l.at xs)) (first_content (drop (l.at + 1) xs)) l.symbols.items c.push-in-loop-at.new.self.items c.sign_symbol.result (Sign (get_or xs l.at 0)) l.depth c.behind_next-depth-in-loop-at.result l.invariant.found
+      found = found_more (first_content xs) (first_content (drop l.at xs)) (first_content (drop (l.at + 1) xs)) l.symbols.items c.push-in-loop-at.new.list.items c.in-Some.symbol (Sign (get_or xs l.at 0)) l.depth c.behind_sign-depth.result l.invariant.found
           (sign_here xs l.at c.loop-at-test.true sign (sym c.in_word.ensures ∙ c.if-in_word.false) (sym c.is_blank.ensures ∙ c.if-is_blank.false))
-          sign c.sign_symbol.ensures c.in_ok-push-2.ensures.items c.behind_next-depth-in-loop-at.ensures;
+          sign c.in-Some.ensures.tells c.in-Ok-push.ensures c.behind_sign-depth.ensures;
     }
 
-pub returns-then-not-is_sign-clause-within : goal.returns-then-not-is_sign-clause-within
-returns-then-not-is_sign-clause-within c = omega (arith, c.loop-at.invariant.passed)
+pub returns-in_default-sign_symbol-clause-within : goal.returns-in_default-sign_symbol-clause-within
+returns-in_default-sign_symbol-clause-within c = omega (arith, c.loop-at.invariant.passed)
 
 pub returns-clause-within : goal.returns-clause-within
 returns-clause-within c = omega (arith, c.loop-at.invariant.passed)
 
-pub returns-then-not-is_sign-clause-scan : goal.returns-then-not-is_sign-clause-scan
-returns-then-not-is_sign-clause-scan c =
+pub returns-in_default-sign_symbol-clause-scan : goal.returns-in_default-sign_symbol-clause-scan
+returns-in_default-sign_symbol-clause-scan c =
     let l = c.loop-at in
     let xs = c.args.text.now in
     let i = l.at in
     let bs = first_content (drop i xs) in
     let lt = c.loop-at-test.true in
     record {
-      clean_is = sym (l.invariant.found.clean ∙ stopped xs i c.ends_content.result lt (sym c.in_word.ensures ∙ c.if-in_word.false) (sym c.is_blank.ensures ∙ c.if-is_blank.false) (sym c.is_sign.ensures ∙ c.if-not-is_sign.true) (sym c.ends_content.ensures));
+      clean_is = sym (l.invariant.found.clean ∙ stopped xs i c.ends_content.result lt (sym c.in_word.ensures ∙ c.if-in_word.false) (sym c.is_blank.ensures ∙ c.if-is_blank.false) (sym c.in_default-sign_symbol.ensures.signs) (sym c.ends_content.ensures));
       bounded_is = λ ends. c.is_some.ensures ∙ sym (found_bounds (first_content xs) bs l.symbols.items l.depth l.invariant.found (end_here xs i lt (sym c.ends_content.ensures ∙ ends)));
       told = λ ends. found_all (first_content xs) bs l.symbols.items l.depth l.invariant.found (end_here xs i lt (sym c.ends_content.ensures ∙ ends));
     }

@@ -1,5 +1,4 @@
 use Rattle.std.proofs.Common.{arith, map, subst, ℕ, List, refl, Some, Bor, Option}
-use Rattle.std.proofs.lemmas.Result.{err_from_is_err_and}
 use Rattle.std.proofs.lemmas.List.{length-map}
 use Rattle.lzk_expr.specs.Texts.{runs, is_plain, content}
 use Rattle.lzk_expr.specs.Numbers.{Fails, words_to, numbers_of}
@@ -16,14 +15,13 @@ stopped : (size count line : ℕ) (text now have : List ℕ) (behind : Bor (List
 stopped size count line text now have behind after errors.OutOfMemory next h e = tt
 stopped size count line text now have behind after (errors.Fault f) next h e = left_stop size count line text now have behind after f next h e
 
-pub returns-in_err-take_words : goal.returns-in_err-take_words
-returns-in_err-take_words g c =
-    let p = err_from_is_err_and c.from_residual.result c.from_residual.ensures.1 in
+pub returns-in-Err : goal.returns-in-Err
+returns-in-Err g c =
     let size = g.F.Field.coding.size in
     let have = map g.F.Field.coding.number c.loop-left.found.items in
     let now = c.next_line.result.0.now in
-    let e = subst (λ (t : List ℕ). Fails c.in_err-take_words.field-0.0 (words_to size c.args.count c.loop-left.line (runs is_plain t) have)) c.content.ensures c.in_err-take_words.ensures in
-    rw (p.1, p.2) (stopped size c.args.count c.loop-left.line c.args.text.now.bytes.now now have c.in-Some.behind c.next_line.result.1 c.in_err-take_words.field-0.0 c.next_line.ensures (subst (λ o. Left size c.args.count c.loop-left.line c.args.text.now.bytes.now o have) c.in-Some.is c.loop-left.invariant) e)
+    let e = subst (λ (t : List ℕ). Fails c.in-Err.e (words_to size c.args.count c.loop-left.line (runs is_plain t) have)) c.content.ensures c.in-Err.ensures in
+    stopped size c.args.count c.loop-left.line c.args.text.now.bytes.now now have c.in-Some.behind c.next_line.result.1 c.in-Err.e c.next_line.ensures (subst (λ o. Left size c.args.count c.loop-left.line c.args.text.now.bytes.now o have) c.in-Some.is c.loop-left.invariant) e
 
 pub loop-left-preserved : goal.loop-left-preserved
 loop-left-preserved g c =
@@ -31,7 +29,7 @@ loop-left-preserved g c =
     let have = map g.F.Field.coding.number c.loop-left.found.items in
     let more = map g.F.Field.coding.number c.take_words.new.found.items in
     let now = c.next_line.result.0.now in
-    let e = rw c.content.ensures at c.in_ok-take_words.ensures in
+    let e = rw c.content.ensures at c.in-Ok.ensures in
     left_next size c.args.count c.loop-left.line c.args.text.now.bytes.now now have more c.in-Some.behind c.next_line.result.1 c.next_line.ensures (subst (λ o. Left size c.args.count c.loop-left.line c.args.text.now.bytes.now o have) c.in-Some.is c.loop-left.invariant) e
 
 pub returns-then-len-count : goal.returns-then-len-count

@@ -14,7 +14,7 @@ loop-word-preserved g c =
     let num = g.F.Field.coding.number in
     let have = map num c.loop-word.found.items in
     let same : length have ≡ c.len.result = length-map c.loop-word.found.items num ∙ omega (arith, c.len.ensures) in
-    let more : map num c.push.new.self.items ≡ have ++ num c.in-Ok.x ∷ [] = rw c.in_ok-push-in-Ok.ensures.items (map_push _ c.loop-word.found.items c.in-Ok.x) in
+    let more : map num c.push.new.list.items ≡ have ++ num c.in-Ok.x ∷ [] = rw c.in-Ok-push.ensures (map_push _ c.loop-word.found.items c.in-Ok.x) in
     rw more (c.loop-word.invariant ∙ words_next g.F.Field.coding.size c.args.count c.args.line c.loop-word.rest.now c.in-Some.word.now c.in-Some.after.now have (have ++ num c.in-Ok.x ∷ []) c.in-Some.ensures (c.in-Ok.ensures have same))
 
 pub returns : goal.returns

@@ -1,10 +1,8 @@
-use Rattle.std.proofs.Common.{ℕ, List, [], Bor, ap}
-use Rattle.std.specs.Prelude.{slice_index_or}
-use Rattle.lzk_expr.specs.NameLists.{bytes_of, lists_of}
+use Rattle.lzk_expr.specs.NameLists.{lists_of}
 use Rattle.lzk_expr.specs.Printing.{sum_text, product_text}
 use Rattle.lzk_expr.specs.View.{part_list, expr_list}
 use Rattle.lzk_expr.proofs.Trees.{number_is, public_is, private_is, named_is}
-use Rattle.lzk_expr.proofs.PrintLaws.{writes_is, printed, neg_printed, sum_printed, product_printed, up_to_none, one_part, one_factor, all_parts, all_factors}
+use Rattle.lzk_expr.proofs.PrintLaws.{printed, neg_printed, sum_printed, product_printed, up_to_none, one_part, one_factor, all_parts, all_factors}
 use Rattle.lzk_expr.proofs.printing.+print.Goals as goal
 
 pub print_expr-returns-in-Number : goal.print_expr-returns-in-Number
@@ -15,26 +13,26 @@ print_expr-returns-in-Public t c =
     let a = c.args.text.now in
     let b = c.print_name.new.text in
     printed (lists_of c.args.names.now) c.args.at c.args.expr.now _ _ a b c.in-Public.is (public_is c.in-Public.i)
-    (writes_is _ _ a b (ap (λ (l : List (Bor (List ℕ))). slice_index_or (bytes_of l) c.in-Public.i []) c.deref.ensures.value) c.print_name.ensures)
+    c.print_name.ensures
 
 pub print_expr-returns-in-Private : goal.print_expr-returns-in-Private
 print_expr-returns-in-Private t c =
     let a = c.args.text.now in
     let b = c.print_name-in-Private.new.text in
     printed (lists_of c.args.names.now) c.args.at c.args.expr.now _ _ a b c.in-Private.is (private_is c.in-Private.i)
-    (writes_is _ _ a b (ap (λ (l : List (Bor (List ℕ))). slice_index_or (bytes_of l) c.in-Private.i []) c.deref-in-Private.ensures.value) c.print_name-in-Private.ensures)
+    c.print_name-in-Private.ensures
 
 pub print_expr-returns-in-Named : goal.print_expr-returns-in-Named
 print_expr-returns-in-Named t c =
     let a = c.args.text.now in
     let b = c.print_name-in-Named.new.text in
     printed (lists_of c.args.names.now) c.args.at c.args.expr.now _ _ a b c.in-Named.is (named_is c.in-Named.i)
-    (writes_is _ _ a b (ap (λ (l : List (Bor (List ℕ))). slice_index_or (bytes_of l) c.in-Named.i []) c.deref-in-Named.ensures.value) c.print_name-in-Named.ensures)
+    c.print_name-in-Named.ensures
 
 pub print_expr-returns-in-Neg : goal.print_expr-returns-in-Neg
 print_expr-returns-in-Neg t c =
-    neg_printed (lists_of c.args.names.now) c.args.at c.args.expr.now c.deref-in-Neg.result.now c.in-Neg.inner c.is_closed_negative-closed.result c.args.text.now c.put.new.self c.put-in-Neg.new.self c.print_expr.new.text c.put-in-Neg-2.new.self
-    c.in-Neg.is c.deref-in-Neg.ensures c.is_closed_negative-closed.ensures c.put.ensures c.put-in-Neg.ensures c.print_expr.ensures c.put-in-Neg-2.ensures
+    neg_printed (lists_of c.args.names.now) c.args.at c.args.expr.now c.deref.result.now c.in-Neg.inner c.is_closed_negative-closed.result c.args.text.now c.put.new.self c.put-in-Neg.new.self c.print_expr.new.text c.put-in-Neg-2.new.self
+    c.in-Neg.is c.deref.ensures c.is_closed_negative-closed.ensures c.put.ensures c.put-in-Neg.ensures c.print_expr.ensures c.put-in-Neg-2.ensures
 
 pub print_expr-returns-in-Sum : goal.print_expr-returns-in-Sum
 print_expr-returns-in-Sum t c =

@@ -11,7 +11,7 @@ loop-i-preserved c =
     let ms = c.args.statements.now in
     let at = sym (statements_at ms l.i c.index-statements-i.result c.loop-i-test.true c.index-statements-i.is) in
     let left = statements_of (drop (l.i + 1) ms) in
-    let e = c.in_ok-list_name.ensures in
+    let e = c.in-Ok.ensures in
     record {
       publics = e.publics left ∙ ap (λ ss. bytes_of l.names.publics.items ++ public_names ss) at ∙ l.invariant.publics;
       privates = e.privates left ∙ ap (λ ss. bytes_of l.names.privates.items ++ private_names ss) at ∙ l.invariant.privates;

@@ -16,7 +16,7 @@ pub loop-symbol-init : goal.loop-symbol-init
 loop-symbol-init c = record {
   depth = search rules;
   few = omega arith;
-  begun = λ ts told. rw c.no_words-syntax.ensures (begun c.args.field c.args.names.now.table c.args.symbols.now c.args.words.now.items c.args.numbers.now.items ts told);
+  begun = λ ts told. begun c.args.field c.args.names.now.table c.args.symbols.now c.args.words.now.items c.args.numbers.now.items ts told;
 }
 
 pub overflow_cast-len : goal.overflow_cast-len
@@ -40,15 +40,14 @@ loop-symbol-preserved c =
     let next = c.in-Some.next in
     record {
       depth = omega (arith, l.invariant.depth, c.in-Some-after.ensures.depth);
-      few = omega (arith, l.invariant.few, ap length c.in_ok-put_number.ensures, length-append l.numbers.items (numbers_of next.word next.number), few_numbers next.word next.number);
+      few = omega (arith, l.invariant.few, ap length c.in-Ok.ensures.numbers, length-append l.numbers.items (numbers_of next.word next.number), few_numbers next.word next.number);
       begun = λ ts told.
           one_more c.args.field c.args.names.now.table _ _ _ _ _ _ _ ts _ _ _ (from_index c.args.symbols.now l.symbol-index c.loop-symbol-test.true) (l.invariant.begun ts told)
-          next c.len.result (omega (arith, c.len.ensures)) c.in-Some.ensures c.in-Some-after.behind _ _ c.in_ok-push.ensures.items c.in_ok-put_number.ensures c.in-Some-after.ensures.next
-          _ _ c.both-known.ensures c.both-below.ensures;
+          next c.len.result (omega (arith, c.len.ensures)) c.in-Some.ensures c.in-Some-after.behind _ _ c.in-Ok.ensures.words c.in-Ok.ensures.numbers c.in-Some-after.ensures.next;
     }
 
 pub returns-clause-sum : goal.returns-clause-sum
 returns-clause-sum c =
     let l = c.loop-symbol in
     λ ts told. at_end c.args.field c.args.names.now.table _ _ _ _ _ _ _ ts _ (drop_all l.symbol-index c.args.symbols.now c.loop-symbol-test.false) (l.invariant.begun ts told)
-    c.args.end _ c.in_ok-push-2.ensures.items _ c.is_whole.ensures
+    c.args.end _ c.in-Ok-push.ensures _ c.is_whole.ensures

@@ -4,7 +4,6 @@ use Rattle.lzk_expr.specs.Tokens.{Key}
 use Rattle.lzk_expr.specs.declared.code.Word.{Word}
 use Rattle.lzk_expr.specs.declared.code.Word.TheVariants as words
 use Rattle.lzk_expr.specs.declared.coder.Coder.{Coder}
-use Rattle.lzk_expr.specs.declared.sum_words.Marks.{Marks}
 use Rattle.lzk_expr.specs.declared.source_fault.SourceKind.{SourceKind}
 use Rattle.lzk_expr.specs.declared.tokens.Keyword.TheVariants as keys
 use Rattle.lzk_expr.specs.Coders.{TakesCode, broken_by}
@@ -21,7 +20,7 @@ pub push_sum-requires : goal.push_sum-requires
 push_sum-requires c = record { room = omega (arith, c.requires.few, fewer_halves c.args.symbols.now c.in-Some.lhs.now c.in-Some.rhs.now c.in-Some.ensures) }
 
 pub push_sum-requires-2 : goal.push_sum-requires-2
-push_sum-requires-2 c = record { room = omega (arith, c.requires.few, c.in_ok-left.ensures.few, fewer_halves c.args.symbols.now c.in-Some.lhs.now c.in-Some.rhs.now c.in-Some.ensures) }
+push_sum-requires-2 c = record { room = omega (arith, c.requires.few, c.in-Ok.ensures.few, fewer_halves c.args.symbols.now c.in-Some.lhs.now c.in-Some.rhs.now c.in-Some.ensures) }
 
 pub returns-clause-takes : goal.returns-clause-takes
 returns-clause-takes c = λ b ts h told.
@@ -30,12 +29,11 @@ returns-clause-takes c = λ b ts h told.
     let table = old.names.table in
     let f = c.unwrap-field.result in
     let d = c.in-Some.ensures ts told in
-    let m = c.in_ok-left.left in
-    let n = c.in_ok-right.right in
-    let broken = c.broken.ensures ∙ ap (λ (k : Marks). broken_by k.formed false k.known k.below) c.both.ensures in
-    subst (λ (o : Option SourceKind). TakesCode b after (Key keys.Assert ∷ ts) o) (sym broken)
-    (formed_cases (λ k. TakesCode b after (Key keys.Assert ∷ ts) (broken_by (k && n.formed) false (m.known && n.known) (m.below && n.below))) m.formed (c.in_ok-left.ensures.sum d.left d.left_told)
-    (λ i. formed_cases (λ k. TakesCode b after (Key keys.Assert ∷ ts) (broken_by k false (m.known && n.known) (m.below && n.below))) n.formed (c.in_ok-right.ensures.sum d.right d.right_told)
+    let m = c.in-Ok.left in
+    let n = c.in-Ok-push_sum.right in
+    subst (λ (o : Option SourceKind). TakesCode b after (Key keys.Assert ∷ ts) o) (sym c.broken.ensures)
+    (formed_cases (λ k. TakesCode b after (Key keys.Assert ∷ ts) (broken_by (k && n.formed) false (m.known && n.known) (m.below && n.below))) m.formed (c.in-Ok.ensures.sum d.left d.left_told)
+    (λ i. formed_cases (λ k. TakesCode b after (Key keys.Assert ∷ ts) (broken_by k false (m.known && n.known) (m.below && n.below))) n.formed (c.in-Ok-push_sum.ensures.sum d.right d.right_told)
     (λ j.
     let s = sum_in table b.statements f d.left i.expr m.known m.below h.names_are i.sum in
     let t = sum_in table b.statements f d.right j.expr n.known n.below h.names_are j.sum in
@@ -48,4 +46,4 @@ returns-clause-takes c = λ b ts h told.
     (λ none. coded_no_left table b after ts d.left d.right d.split none))
 
 pub returns-clause-used : goal.returns-clause-used
-returns-clause-used c = omega (arith, c.in_ok-left.ensures.few, c.in_ok-right.ensures.few, fewer_halves c.args.symbols.now c.in-Some.lhs.now c.in-Some.rhs.now c.in-Some.ensures)
+returns-clause-used c = omega (arith, c.in-Ok.ensures.few, c.in-Ok-push_sum.ensures.few, fewer_halves c.args.symbols.now c.in-Some.lhs.now c.in-Some.rhs.now c.in-Some.ensures)

@@ -1,4 +1,4 @@
-use Rattle.std.proofs.Common.{◌≡◌, ◌+◌, sym, refl, ◌∙◌, true, List, ℕ, arith, drop, subst}
+use Rattle.std.proofs.Common.{◌≡◌, ◌+◌, ◌||◌, sym, refl, ◌∙◌, true, List, ℕ, arith, drop, subst}
 use Rattle.std.specs.List.{list_all}
 use Rattle.std.proofs.lemmas.List.{at_drop_all}
 use Rattle.lzk_expr.specs.SymbolForms.{is_name_symbol}
@@ -29,12 +29,12 @@ loop-symbol-preserved c =
     let name = c.in-Name.name in
     let rest : List (List ℕ) = symbol_names (drop (l.symbol-index + 1) ss) in
     record {
-      room = omega (arith, c.in_ok-known.ensures.count, l.invariant.room);
-      used = c.in_ok-known.ensures.used ∙ l.invariant.used;
+      room = omega (arith, c.in-Ok.ensures.count, l.invariant.room);
+      used = c.in-Ok.ensures.used ∙ l.invariant.used;
       names = l.invariant.names ∙ names_left ss l.symbol-index name c.loop-symbol-test.true c.in-Name.is;
       left = λ b h.
           let left = subst (λ (ws : List (List ℕ)). InputsTaken b l.self input (symbol_names ss) ws l.twice) (name_left ss l.symbol-index name c.loop-symbol-test.true c.in-Name.is) (l.invariant.left b h) in
-          inputs_more b l.self c.declare_input.new.self input (symbol_names ss) rest name.now l.twice c.in_ok-known.known c.either-twice.result c.either-twice.ensures c.in_ok-known.ensures.known left c.in_ok-known.ensures.declares;
+          inputs_more b l.self c.declare_input.new.self input (symbol_names ss) rest name.now l.twice c.in-Ok.known (l.twice || c.in-Ok.known) refl c.in-Ok.ensures.known left c.in-Ok.ensures.declares;
     }
 
 pub returns-clause-takes : goal.returns-clause-takes

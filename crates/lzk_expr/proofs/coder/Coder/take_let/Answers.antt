@@ -30,20 +30,20 @@ returns-clause-takes c = λ b ts h told.
     let after : Coder = record old { words = c.push_sum.new.words; numbers = c.push_sum.new.numbers; names = c.declare.new.self; lets = old.lets + 1 } in
     let table = old.names.table in
     let d = c.in-Some.ensures ts told in
-    let m = c.in_ok-marks.marks in
-    let t = c.in_ok-twice.twice in
+    let m = c.in-Ok.marks in
+    let t = c.in-Ok-declare.twice in
     let w = c.in-Some.name.now in
     let f = c.unwrap-field.result in
-    let twice : is_some (name_of b.statements w) ≡ t = sym (known_name old b h w) ∙ sym c.in_ok-twice.ensures.known in
+    let twice : is_some (name_of b.statements w) ≡ t = sym (known_name old b h w) ∙ sym c.in-Ok-declare.ensures.known in
     subst (λ (o : Option SourceKind). TakesCode b after (Key keys.Let ∷ ts) o) (sym c.broken.ensures)
-    (formed_cases (λ k. TakesCode b after (Key keys.Let ∷ ts) (broken_by k t m.known m.below)) m.formed (c.in_ok-marks.ensures.sum d.behind d.told)
+    (formed_cases (λ k. TakesCode b after (Key keys.Let ∷ ts) (broken_by k t m.known m.below)) m.formed (c.in-Ok.ensures.sum d.behind d.told)
     (λ i.
     let s = sum_in table b.statements f d.behind i.expr m.known m.below h.names_are i.sum in
     let same = i.ended_is ∙ ap (λ (l : List Word). l ++ words.Define ∷ []) i.added.words_are in
     coded_let b after f ts d.behind w i.expr m.known m.below (sym h.field_is ∙ c.unwrap-field.ensures) d.defines s t twice
     (λ none k l. let_coder old after b w i.expr (map (step_in table) d.behind) i.added.words i.added.numbers h (none_of (name_of b.statements w) (twice ∙ none)) (steps_of_sum table d.behind i.expr i.sum.read) same i.added.numbers_are i.added.steps_are
-    c.in_ok-twice.ensures.declares refl refl refl refl refl))
+    c.in-Ok-declare.ensures.declares refl refl refl refl refl))
     (λ none. coded_no_sum table b after ts d.behind w d.defines none))
 
 pub returns-clause-used : goal.returns-clause-used
-returns-clause-used c = omega (arith, c.in_ok-marks.ensures.few, fewer_defined c.args.symbols.now c.in-Some.sum.now c.in-Some.name.now c.in-Some.ensures)
+returns-clause-used c = omega (arith, c.in-Ok.ensures.few, fewer_defined c.args.symbols.now c.in-Some.sum.now c.in-Some.name.now c.in-Some.ensures)

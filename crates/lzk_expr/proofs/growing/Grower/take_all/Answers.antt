@@ -7,7 +7,7 @@ loop-word-init c = λ old new g h. record { so_far = old; grown = g; goes_on = h
 pub loop-word-preserved : goal.loop-word-preserved
 loop-word-preserved c = λ old new g h.
     let l = c.loop-word in
-    word_taken c.args.numbers.now c.args.words.now l.word-index l.self c.take.new.self new c.loop-word-test.true (l.invariant old new g h) c.in_ok-take.ensures
+    word_taken c.args.numbers.now c.args.words.now l.word-index l.self c.take.new.self new c.loop-word-test.true (l.invariant old new g h) c.in-Ok.ensures
 
 pub returns : goal.returns
 returns c = λ old new g h.

@@ -16,6 +16,6 @@ pub returns : goal.returns
 returns c = λ a h.
     let s = c.args.self.now in
     on_ok c.atom.result
-    (closed_back s.outer.items c.pop.new.self.items c.in-Some.before c.replace-inner.result s.now c.replace-inner.new.dest (expr_of c.in_ok-expr.expr) s.ready a (reads_of c.atom.new.self)
-    c.in-Some.ensures.items c.replace-inner.ensures.value c.replace-inner.ensures.after c.in_ok-expr.ensures h)
+    (closed_back s.outer.items c.pop.new.self.items c.in-Some.before c.replace-inner.result s.now c.replace-inner.new.dest (expr_of c.in-Ok.expr) s.ready a (reads_of c.atom.new.self)
+    c.in-Some.ensures.items c.replace-inner.ensures.value c.replace-inner.ensures.after c.in-Ok.ensures h)
     c.atom.ensures
