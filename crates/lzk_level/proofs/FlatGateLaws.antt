@@ -24,7 +24,7 @@ not-on-ok P (Ok x) Q h = absurd h
 not-on-ok P (Err e) Q h = tt
 
 module _ {A : Type 0} where
-  wider : (m n : ℕ) (gate : Made A) → m ≤ n → IsSpanned m gate → IsSpanned n gate
+  pub wider : (m n : ℕ) (gate : Made A) → m ≤ n → IsSpanned m gate → IsSpanned n gate
   wider m n (stored.Constant c) l h = tt
   wider m n (stored.Combine begin end) l h = (h.0, omega (arith, h.1, l))
   wider m n (stored.Mul x y) l h = tt
@@ -50,7 +50,12 @@ module _ {A : Type 0} where
   spanned-at n zero (g ∷ gs) gate h l e = subst (IsSpanned n) (sym e) h.0
   spanned-at n (suc i) (g ∷ gs) gate h l e = spanned-at n i gs gate h.1 (omega (arith, l)) e
 
-  kept : (ps qs : List (A × ℕ)) (gate : Made A) → IsSpanned (length ps) gate → gate_in (ps ++ qs) gate ≡ gate_in ps gate
+  pub gate-read : (ps : List (A × ℕ)) (made : List (Made A)) (i : ℕ) (gate : Made A) (x : Gate A) → i < length made → gate ≡ get_or made i gate → x ≡ gate_in ps gate → x ≡ get_or (gates_in ps made) i x
+  gate-read ps [] i gate x l e f = absurd (omega (arith, l))
+  gate-read ps (g ∷ gs) zero gate x l e f = f ∙ ap (gate_in ps) e
+  gate-read ps (g ∷ gs) (suc i) gate x l e f = gate-read ps gs i gate x (omega (arith, l)) e f
+
+  pub kept : (ps qs : List (A × ℕ)) (gate : Made A) → IsSpanned (length ps) gate → gate_in (ps ++ qs) gate ≡ gate_in ps gate
   kept ps qs (stored.Constant c) h = refl
   kept ps qs (stored.Combine begin end) h = ap (λ p. Combine p) (piece-kept ps qs (begin, end) h.0 h.1)
   kept ps qs (stored.Mul x y) h = refl
@@ -63,20 +68,26 @@ module _ {A : Type 0} where
   pub gates-with : (ps new : List (A × ℕ)) (qs : List (A × ℕ)) (made : List (Made A)) → new ≡ ps ++ qs → AreSpanned (length ps) made → gates_in new made ≡ gates_in ps made
   gates-with ps new qs made e h = ap (λ ts. gates_in ts made) e ∙ gates-kept ps qs made h
 
-  -- one more sum, of parts behind those of the others
-  pub sum-more : (ps new qs : List (A × ℕ)) (made more : List (Made A)) (begin end : ℕ) → AreSpanned (length ps) made → new ≡ ps ++ qs → begin ≡ length ps → end ≡ length new → more ≡ made ++ stored.Combine begin end ∷ []
-      → gates_in new more ≡ gates_in ps made ++ Combine qs ∷ []
-  sum-more ps new qs made more begin end h e b f m =
-      let long : end ≡ length ps + length qs = f ∙ ap length e ∙ length-append ps qs in
-      ap (gates_in new) m ∙ map-append (gate_in new) made (stored.Combine begin end ∷ [])
-      ∙ ap₂ (λ xs g. xs ++ g ∷ []) (gates-with ps new qs made e h)
-      (ap (λ ts. gate_in ts (stored.Combine begin end)) e ∙ ap (λ k. gate_in (ps ++ qs) (stored.Combine k end)) b ∙ ap (λ p. Combine p) (last-piece ps qs end long))
+  -- one more gate where a call went well, and else the same gates
+  pub spanned-either : {T E : Type 0} (r : Result T E) (n : ℕ) (made new : List (Made A)) (gate : Made A) → AreSpanned n made → IsSpanned n gate → OnOk r (new ≡ made ++ gate ∷ []) → OnErr r (new ≡ made) → AreSpanned n new
+  spanned-either (Ok x) n made new gate h k e f = subst (AreSpanned n) (sym e) (spanned-more n made gate h k)
+  spanned-either (Err x) n made new gate h k e f = subst (AreSpanned n) (sym f) h
 
-  -- it stands within the parts
-  pub sum-spanned : (ps new qs : List (A × ℕ)) (made : List (Made A)) (begin end : ℕ) → AreSpanned (length ps) made → new ≡ ps ++ qs → begin ≡ length ps → end ≡ length new → AreSpanned (length new) (made ++ stored.Combine begin end ∷ [])
-  sum-spanned ps new qs made begin end h e b f =
-      let longer : length ps ≤ length new = omega (arith, ap length e, length-append ps qs) in
-      spanned-more (length new) made (stored.Combine begin end) (spanned-wider (length ps) (length new) made longer h) (omega (arith, longer, b, f), omega (arith, f))
+  -- one more sum, of parts behind those of the others
+  pub sum-more : (ps new qs : List (A × ℕ)) (made more : List (Made A)) (sum : Made A) → AreSpanned (length ps) made → new ≡ ps ++ qs → sum ≡ stored.Combine (length ps) (length new) → more ≡ made ++ sum ∷ []
+      → gates_in new more ≡ gates_in ps made ++ Combine qs ∷ []
+  sum-more ps new qs made more sum h e f m =
+      let long : length new ≡ length ps + length qs = ap length e ∙ length-append ps qs in
+      ap (gates_in new) m ∙ map-append (gate_in new) made (sum ∷ [])
+      ∙ ap₂ (λ xs g. xs ++ g ∷ []) (gates-with ps new qs made e h)
+      (ap (gate_in new) f ∙ ap (λ ts. gate_in ts (stored.Combine (length ps) (length new))) e ∙ ap (λ p. Combine p) (last-piece ps qs (length new) long))
+
+  -- it stands within the parts, and so do the others
+  pub sum-spanned : (ps new qs : List (A × ℕ)) (sum : Made A) → new ≡ ps ++ qs → sum ≡ stored.Combine (length ps) (length new) → IsSpanned (length new) sum
+  sum-spanned ps new qs sum e f = subst (IsSpanned (length new)) (sym f) (omega (arith, ap length e, length-append ps qs), omega arith)
+
+  pub spanned-with : (ps new qs : List (A × ℕ)) (made : List (Made A)) → new ≡ ps ++ qs → AreSpanned (length ps) made → AreSpanned (length new) made
+  spanned-with ps new qs made e h = spanned-wider (length ps) (length new) made (omega (arith, ap length e, length-append ps qs)) h
 
   -- the first gates are over those before them
   pub gates-take : (n count : ℕ) (made : List (Gate A)) → AreGates n made → AreGates n (take count made)

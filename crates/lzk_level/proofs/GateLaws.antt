@@ -1,5 +1,5 @@
 -- Lists of gates, and what each makes of those before it.
-use Rattle.std.specs.Prelude.{◌≡◌, ℕ, ◌+◌, ◌-◌, ◌^◌, ◌<◌, ◌≤◌, max, min, List, [], ◌∷◌, ◌++◌, length, map, replicate, take}
+use Rattle.std.specs.Prelude.{◌≡◌, ℕ, ◌+◌, ◌-◌, ◌^◌, ◌<◌, ◌≤◌, max, min, List, [], ◌∷◌, ◌++◌, length, map, replicate, take, Result, Ok, Err, OnOk, OnErr}
 use Rattle.std.proofs.Common.{zero, suc, inl, inr, refl, sym, ap, ◌∙◌, arith, subst, get_or}
 use Rattle.std.proofs.lemmas.Bool.{cases_lt}
 use Rattle.std.proofs.lemmas.List.{take_more, length-append, map-append, get_or_append_left}
@@ -15,11 +15,12 @@ module _ {A : Type 0} where
   gates-more n m [] gate e h k = (let f : m ≡ n = omega (arith, e) in subst (λ i. IsGate i gate) f k, tt)
   gates-more n m (g ∷ gs) gate e h k = (h.0, gates-more (n + 1) m gs gate (omega (arith, e)) h.1 k)
 
-  -- a builder with one more gate
-  pub builder-more : (p q : ℕ) (made new : List (Gate A)) (gate : Gate A) → new ≡ made ++ gate ∷ [] → p + q + length made < 2147483648 → AreGates (p + q) made → IsGate (p + q + length made) gate
+  -- a builder with one more gate, where a call went well
+  pub builder-either : {T E : Type 0} (r : Result T E) (p q : ℕ) (made new : List (Gate A)) (gate : Gate A) → OnOk r (new ≡ made ++ gate ∷ []) → OnErr r (new ≡ made) → p + q + length made < 2147483648 → AreGates (p + q) made → IsGate (p + q + length made) gate
       → (p + q + length new ≤ 2147483648) × AreGates (p + q) new
-  builder-more p q made new gate e room h k =
+  builder-either (Ok x) p q made new gate e f room h k =
       (omega (arith, room, ap length e, length-append made (gate ∷ [])), subst (AreGates (p + q)) (sym e) (gates-more (p + q) (p + q + length made) made gate refl h k))
+  builder-either (Err x) p q made new gate e f room h k = (omega (arith, room, ap length f), subst (AreGates (p + q)) (sym f) h)
 
 pub greatest-append : (m n : ℕ) (ns : List ℕ) → greatest m (ns ++ n ∷ []) ≡ max (greatest m ns) n
 greatest-append m n [] = omega arith
@@ -113,3 +114,25 @@ below-more ds d f l k m = elim (cases_lt k (length ds)) [
 pub capped-all : (m n : ℕ) (weights all ks : List ℕ) → m ≡ n → weights ≡ map cap all → cap (cap (m + total weights) + cap (total (map (at weights) ks))) ≡ cap (n + total all + total (map (at all) ks))
 capped-all m n weights all ks e w =
     ap (λ ws. cap (cap (m + total ws) + cap (total (map (at ws) ks)))) w ∙ omega (arith, e, cap-total all, cap-outputs all ks)
+
+module _ {A : Type 0} where
+  -- the depths with one gate more, and the weights, which stop at the last value of u64
+  pub depths-more : (inputs i d : ℕ) (made : List (Gate A)) (gate : Gate A) (old here new : List ℕ) → i < length made → gate ≡ get_or made i gate → here ≡ old → d ≡ gate_depth here gate → old ≡ after gate_depth (replicate (1 + inputs) 0) (take i made) → new ≡ old ++ d ∷ []
+      → new ≡ after gate_depth (replicate (1 + inputs) 0) (take (i + 1) made)
+  depths-more inputs i d made gate old here new l is same e h grown =
+      let start : List ℕ = replicate (1 + inputs) 0 in
+      grown ∙ ap (λ x. old ++ x ∷ []) (e ∙ ap (λ ds. gate_depth ds gate) same) ∙ ap (λ ds. ds ++ gate_depth ds gate ∷ []) h ∙ sym (after-next gate_depth start made i gate l is)
+
+  pub weights-more : (inputs i w : ℕ) (made : List (Gate A)) (gate : Gate A) (old here new : List ℕ) → i < length made → gate ≡ get_or made i gate → here ≡ old → w ≡ cap (gate_weight here gate) → old ≡ map cap (after gate_weight (0 ∷ replicate inputs 1) (take i made)) → new ≡ old ++ w ∷ []
+      → new ≡ map cap (after gate_weight (0 ∷ replicate inputs 1) (take (i + 1) made))
+  weights-more inputs i w made gate old here new l is same e h grown =
+      let start : List ℕ = 0 ∷ replicate inputs 1 in
+      let all : List ℕ = after gate_weight start (take i made) in
+      let w_is : w ≡ cap (gate_weight all gate) = e ∙ ap (λ ws. cap (gate_weight ws gate)) (same ∙ h) ∙ cap-gate all gate in
+      grown ∙ ap (λ x. old ++ x ∷ []) w_is ∙ ap (λ ws. ws ++ cap (gate_weight all gate) ∷ []) h ∙ sym (ap (map cap) (after-next gate_weight start made i gate l is) ∙ map-append cap all (gate_weight all gate ∷ []))
+
+  -- no depth reaches how many there are
+  pub low-more : (d : ℕ) (gate : Gate A) (old here new : List ℕ) → here ≡ old → d ≡ gate_depth here gate → 1 ≤ length old → ((k : ℕ) → k < length old → at old k < length old) → IsGate (length old - 1) gate → new ≡ old ++ d ∷ [] → (k : ℕ) → k < length new → at new k < length new
+  low-more d gate old here new same e some low is grown =
+      let d_is : d ≡ gate_depth old gate = e ∙ ap (λ ds. gate_depth ds gate) same in
+      subst (λ ns. (k : ℕ) → k < length ns → at ns k < length ns) (sym grown) (below-more old d low (omega (arith, d_is, depth-most old gate some low is)))

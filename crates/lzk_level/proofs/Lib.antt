@@ -4,6 +4,7 @@ pub mod SpanLaws
 pub mod NodeForms
 pub mod FormSteps
 pub mod FlatGateLaws
+pub mod ResultLaws
 pub mod CombineLaws
 pub mod SumLaws
 pub mod NodeLaws
@@ -12,6 +13,7 @@ pub mod InnerLaws
 pub mod ConstantLaws
 pub mod MadeLaws
 pub mod StepLaws
+pub mod FactorLaws
 pub mod OneMoreLaws
 pub mod ExprValues
 pub mod ReadLaws

@@ -76,21 +76,21 @@ module _ {A : Type 0} (o : Ops A) (r : RingLaws o) where
   }
 
   -- a wire that goes on has the value of the one below, where the first is one
-  pub goes-on-value : (wires : List A) (number : ℕ) (row : List (Term A)) → row ≡ going_on o number ∷ [] → entry o wires 0 ≡ o.one → row_value o wires row ≡ entry o wires number
+  goes-on-value : (wires : List A) (number : ℕ) (row : List (Term A)) → row ≡ going_on o number ∷ [] → entry o wires 0 ≡ o.one → row_value o wires row ≡ entry o wires number
   goes-on-value wires number row e one =
       let x = entry o wires number in
       ap (row_value o wires) e ∙ r.plus_zero (times o.one (times (entry o wires 0) x)) ∙ one_times o r (times (entry o wires 0) x) ∙ ap (λ y. times y x) one ∙ one_times o r x
 
 module _ {A : Type 0} (o : Ops A) where
-  pub goes-on-row : FieldLaws o → (width number : ℕ) (row : List (Term A)) → row ≡ going_on o number ∷ [] → number < width → IsRow o width row
+  goes-on-row : FieldLaws o → (width number : ℕ) (row : List (Term A)) → row ≡ going_on o number ∷ [] → number < width → IsRow o width row
   goes-on-row f width number row e l = subst (IsRow o width) (sym e) (row-of-one o width (going_on o number) refl (omega arith) l f.one_not_zero)
 
-  pub goes-on-one : (row : List (Term A)) → row ≡ going_on o 0 ∷ [] → IsOne o row
+  goes-on-one : (row : List (Term A)) → row ≡ going_on o 0 ∷ [] → IsOne o row
   goes-on-one row e = subst (IsOne o) (sym e) refl
 
 module _ {A : Type 0} (inputs : ℕ) (forms : Forms A) (depths last : List ℕ) (formed : IsFormed inputs forms depths) (uses : AreUses inputs forms depths last) where
   -- a node of a level's own depth was made
-  made-there : (level k : ℕ) → 1 ≤ level → level ≤ at depths k → inputs ≤ k
+  pub made-there : (level k : ℕ) → 1 ≤ level → level ≤ at depths k → inputs ≤ k
   made-there level k some deep = elim (cases_lt k inputs) [ inl before ↦ absurd (omega (arith, formed.at_inputs k before, some, deep)) | inr after ↦ after ]
 
   -- the nodes of the form of a node that is due in the level of its depth have wires below
@@ -133,6 +133,7 @@ module _ {A : Type 0} (inputs : ℕ) (forms : Forms A) (depths last : List ℕ) 
         is = λ width w. goes-on-row o f width number row is (omega (arith, e, w.each k due.node there));
         value = λ values wires v c. goes-on-value o r wires number row is c.one ∙ ap (entry o wires) e ∙ c.each k due.node there;
         light = λ weights h. ((λ up. omega (arith, ap length is)), (λ deep. absurd (omega (arith, deep, less))));
+        one = λ zero none. goes-on-one o row (is ∙ ap (λ n. going_on o n ∷ []) (e ∙ ap (at below) zero ∙ none));
       }
 
   -- that of one in the level of its depth
@@ -143,4 +144,5 @@ module _ {A : Type 0} (inputs : ℕ) (forms : Forms A) (depths last : List ℕ) 
         is = λ width w. f.is width (subst (AreUnder below width) (sym e) (form-under level k width below due deep w));
         value = λ values wires v c. f.value values wires (subst (CarryTerms o below values wires) (sym e) (form-carried o level k below values wires due deep c)) ∙ ap (row_value o values) e ∙ v.each k behind due.node;
         light = λ weights h. ((λ less. absurd (omega (arith, less, deep))), (λ up. omega (arith, f.short, ap length e, h.each k behind due.node)));
+        one = λ zero none. absurd (omega (arith, behind, formed.one, zero));
       }

@@ -102,29 +102,34 @@ node_with before n (Constant c) = record { nodes = n; node = before }
 node_with before n (AtNode k) =
     record { nodes = (joined before (there n k)).nodes; node = Some (joined before (there n k)).node }
 
--- a value, with the sign before it, as one more factor
+-- A value, with the sign before it, as one more factor of the product that is read of half a sum: the nodes and the
+-- product's node, and what is read of the half.
+abbrev pub factor_made : {A : Type 0} → Ops A → Nodes A → Half A → Operand A → MadeFactors A
+factor_made o n h x = let v = signed_in o h.negated n x in node_with h.node v.nodes v.operand
+
+abbrev pub half_with : {A : Type 0} → Ops A → Nodes A → Half A → Operand A → Half A
+half_with o n h x = record {
+  base = h.base;
+  begin = h.begin;
+  total = h.total;
+  minus = h.minus;
+  number = number_with o h.number (signed_in o h.negated n x).operand;
+  node = (factor_made o n h x).node;
+  negated = false;
+}
+
+-- the same of what is held
 abbrev pub with_value : {A : Type 0} → Ops A → Held A → Operand A → Held A
-with_value o m x =
-    let v = signed_in o m.now.negated m.nodes x in
-    let product = node_with m.now.node v.nodes v.operand in
-    record {
-      nodes = product.nodes;
-      outer = m.outer;
-      now = record {
-        base = m.now.base;
-        begin = m.now.begin;
-        total = m.now.total;
-        minus = m.now.minus;
-        number = number_with o m.now.number v.operand;
-        node = product.node;
-        negated = false;
-      };
-      ready = true;
-      parts = m.parts;
-      lets = m.lets;
-      outputs = m.outputs;
-      left = m.left;
-    }
+with_value o m x = record {
+  nodes = (factor_made o m.nodes m.now x).nodes;
+  outer = m.outer;
+  now = half_with o m.nodes m.now x;
+  ready = true;
+  parts = m.parts;
+  lets = m.lets;
+  outputs = m.outputs;
+  left = m.left;
+}
 
 -- the value is a number; or a node, that can be multiplied by the one before it
 abbrev pub CanJoin : {A : Type 0} → ℕ → Option ℕ → Operand A → Type 0

@@ -9,7 +9,7 @@ use Rattle.lzk_circuit.specs.declared.layer.Term.{Term}
 use Rattle.lzk_circuit.specs.Valid.{AreTerms}
 use Rattle.lzk_circuit.specs.Wires.{layer_values}
 use Rattle.lzk_circuit_reduce.specs.Reduced.{HasOne, AreDifferent}
-use Rattle.lzk_circuit_reduce.specs.Renumbering.{at}
+use Rattle.lzk_circuit_reduce.specs.Renumbering.{at, IsOne}
 use Rattle.lzk_circuit_reduce.specs.Rows.{IsRow, AreUnder, row_value}
 use Rattle.lzk_level.specs.Bounds.{total}
 use Rattle.lzk_level.specs.Levels.{has_wire}
@@ -72,7 +72,7 @@ pub record IsDue (depths last : List ℕ) (level k : ℕ) : Type 0 where
 abbrev pub IsLight : List ℕ → ℕ → List ℕ → ℕ → ℕ → Type 0
 IsLight depths level weights k n = (at depths k < level → n ≤ 1) × (level ≤ at depths k → n ≤ at weights k)
 
--- the row of node k in a level, over the numbers of the wires below
+-- the row of node k in a level, over the numbers of the wires below; that of the one is one
 pub record IsNodeRow {A : Type 0} (o : Ops A) (inputs : ℕ) (form : ℕ → List (Term A)) (depths last : List ℕ)
     (level : ℕ) (below : List ℕ) (k : ℕ) (row : List (Term A)) : Type 0 where
   pub is : (width : ℕ) → AreWires depths last (level - 1) width below → IsRow o width row
@@ -80,6 +80,7 @@ pub record IsNodeRow {A : Type 0} (o : Ops A) (inputs : ℕ) (form : ℕ → Lis
       → CarryValues o depths last (level - 1) below values wires → row_value o wires row ≡ entry o values k
   pub light : (weights : List ℕ) → AreFormWeights inputs (length depths) form weights
       → IsLight depths level weights k (length row)
+  pub one : k ≡ 0 → at below 0 ≡ 0 → IsOne o row
 
 -- the weights of those of the first k nodes that are no deeper than a level
 abbrev pub weight_in : List ℕ → ℕ → List ℕ → ℕ → ℕ

@@ -87,14 +87,16 @@ fn laid_out<F: Field>(builder: Builder<F>, asserts: &[Node]) -> Result<Circuit<F
 {
     let (depths, count) = measured(&builder, asserts, asserts.len() as u32)?;
     let inputs = 1 + builder.publics + builder.privates;
-    let layers = asserting_layers(
+    let result = asserting_layers(
         builder.alloc,
         inputs,
         builder.gates,
         &depths,
         asserts,
         count,
-    )?;
+    );
+    drop(depths);
+    let layers = result?;
     Ok(circuit_of(builder.publics, builder.privates, layers))
 }
 

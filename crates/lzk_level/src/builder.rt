@@ -4,8 +4,10 @@ ghost use Rattle.std.specs.Prelude.{◌≡◌, ◌+◌, ◌<◌, ◌≤◌, leng
 ghost use Rattle.lzk_profile.specs.Profile.{most_privates};
 ghost use Rattle.lzk_level.specs.Nodes.{node_count, nodes_from, with_gate, IsNode, ArePartsOf};
 ghost use Rattle.lzk_level.specs.Gates.{Constant, Combine, Mul};
+ghost use Rattle.lzk_level.specs.declared.lets.Operand.TheVariants.{AtNode};
 
-use crate::gates::Gates;
+use crate::gates::{Gates, Made};
+use crate::lets::Operand;
 use crate::node::Node;
 use lzk_field::Field;
 use std::alloc::{AllocError, Global};
@@ -79,6 +81,14 @@ impl<F: Field> Builder<F> {
         self.publics + self.privates + self.gates.len() as u32
     }
 
+    // The node that is made next.
+    fn next(&self) -> Node
+        requires { node_count self.now < 2147483648 }
+        ensures { result ≡ 1 + node_count self.now }
+    {
+        Node::new(1 + self.len())
+    }
+
     /// Public input `i`.
     pub fn public(&self, i: u32) -> Node
         requires { i < self.now.publics }
@@ -104,9 +114,8 @@ impl<F: Field> Builder<F> {
         ensures added { IfOk result (λ _. self.new ≡ with_gate self.old (Constant c)) }
         ensures same { OnErr result (self.new ≡ self.old) }
     {
-        let number = 1 + self.len();
-        self.gates.push_constant(c)?;
-        Ok(Node::new(number))
+        let node = self.next();
+        self.gates.push_alone(Made::Constant(c)).and(Ok(node))
     }
 
     /// The sum of the coefficients times the nodes. All sums have fewer than 2^32 parts: for more there is no memory.
@@ -118,22 +127,22 @@ impl<F: Field> Builder<F> {
         ensures added { IfOk result (λ _. self.new ≡ with_gate self.old (Combine parts.now)) }
         ensures same { OnErr result (self.new ≡ self.old) }
     {
-        let number = 1 + self.len();
-        self.gates.push_sum(parts)?;
-        Ok(Node::new(number))
+        let node = self.next();
+        self.gates.push_sum(parts).and(Ok(node))
     }
 
     /// A multiple of a node.
-    pub(crate) fn multiple(&mut self, c: F, node: Node) -> Result<Node, AllocError>
+    pub(crate) fn multiple(&mut self, c: F, node: Node) -> Result<Operand<F>, AllocError>
         requires room { node_count self.old < 2147483648 }
         requires node { IsNode (node_count self.old) node }
-        ensures node { IfOk result (λ made. made ≡ 1 + node_count self.old) }
+        ensures node { IfOk result (λ made. made ≡ AtNode (1 + node_count self.old)) }
         ensures added { IfOk result (λ _. self.new ≡ with_gate self.old (Combine ((c, node) ∷ []))) }
         ensures same { OnErr result (self.new ≡ self.old) }
     {
-        let number = 1 + self.len();
-        self.gates.push_multiple((c, node))?;
-        Ok(Node::new(number))
+        let next = self.next();
+        self.gates
+            .push_multiple((c, node))
+            .and(Ok(Operand::AtNode(next)))
     }
 
     /// How many of them are no inputs.
@@ -152,9 +161,8 @@ impl<F: Field> Builder<F> {
         ensures added { IfOk result (λ _. self.new ≡ with_gate self.old (Mul x y)) }
         ensures same { OnErr result (self.new ≡ self.old) }
     {
-        let number = 1 + self.len();
-        self.gates.push_product(x, y)?;
-        Ok(Node::new(number))
+        let node = self.next();
+        self.gates.push_alone(Made::Mul(x, y)).and(Ok(node))
     }
 
     /// Takes the nodes away that were made behind so many of them.

@@ -98,7 +98,7 @@ fn laid_out<F: Field>(builder: Builder<F>, outputs: &[Node]) -> Result<Circuit<F
 {
     let (depths, count) = measured(&builder, outputs, 0)?;
     let inputs = 1 + builder.publics + builder.privates;
-    let (layers, targets) = stack_of(
+    let result = stack_of(
         builder.alloc,
         inputs as usize,
         builder.gates,
@@ -106,7 +106,9 @@ fn laid_out<F: Field>(builder: Builder<F>, outputs: &[Node]) -> Result<Circuit<F
         outputs,
         &[],
         count,
-    )?;
+    );
+    drop(depths);
+    let (layers, targets) = result?;
     drop(targets);
     let layers = used(builder.alloc, inputs, layers)?;
     Ok(circuit_of(builder.publics, builder.privates, layers))

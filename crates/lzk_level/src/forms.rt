@@ -61,6 +61,16 @@ struct Next<'a, F: Field> {
         depth } by { Prim.hlevel (IsNext-prop F.code) },
 }
 
+// A factor times a coefficient. Most factors are 1, and need no multiplication.
+fn times<F: Field>(factor: F, coef: F) -> F
+    ensures { result ≡ F.ops.times factor coef }
+{
+    if factor == F::one() {
+        return coef;
+    }
+    factor.mul(coef)
+}
+
 // Adds a multiple of a row to a row.
 fn add_multiple<F: Field>(
     row: &mut Vec<Term<F>>,
@@ -77,7 +87,7 @@ fn add_multiple<F: Field>(
 {
     for i in 0..part.len() {
         let term = part[i];
-        add_term(row, factor.mul(term.coef), term.a, term.b)?;
+        add_term(row, times(factor, term.coef), term.a, term.b)?;
     }
     Ok(())
 }
@@ -119,15 +129,15 @@ fn is_part_late<F: Field>(next: &Next<'_, F>, row: &[Term<F>], node: Node) -> bo
     requires { IsPart next.now.depths.now (next.now.inputs + next.now.i) next.now.depth node }
     ensures { result ≡ true → 1 ≤ length row.now }
 {
-    let k = node.number() as usize;
+    let number = node.number();
+    let k = number as usize;
     if next.depths[k] < next.depth {
-        return is_late(row, 0, node.number());
+        return is_late(row, 0, number);
     }
-    let form = form_of(next, k);
-    if form.is_empty() {
-        return false;
+    match form_of(next, k).first() {
+        Some(first) => is_late(row, first.a, first.b),
+        None => false,
     }
-    is_late(row, form[0].a, form[0].b)
 }
 
 // Adds a part: its form where it is as deep as the next node, and else the node itself.
@@ -143,9 +153,10 @@ fn add_part<F: Field>(
         → IfOk result (λ _. is_sum (parts ++ part ∷ []) row.new.items)) }
 {
     let (coef, node) = part;
-    let k = node.number() as usize;
+    let number = node.number();
+    let k = number as usize;
     if next.depths[k] < next.depth {
-        return add_term(row, coef, 0, node.number());
+        return add_term(row, coef, 0, number);
     }
     add_multiple(row, coef, form_of(next, k))
 }
@@ -225,12 +236,13 @@ pub(crate) fn forms_of<F: Field>(
     ensures { IfOk result (λ forms.
         AreForms F.ops inputs made.now depths.now forms.starts.items forms.terms.items) }
 {
+    let count = made.len();
     // Most forms have one term or two.
-    let mut terms = Vec::with_capacity(alloc, made.len().saturating_mul(2))?;
-    let mut starts = Vec::with_capacity(alloc, made.len())?;
-    starts.push(0)?;
+    let mut terms = Vec::with_capacity(alloc, count.saturating_mul(2))?;
+    let mut starts = Vec::with_capacity(alloc, 1 + count)?;
+    starts.push_reserved(0);
     let mut row = Vec::new(alloc);
-    for i in 0..made.len() {
+    for i in 0..count {
         let next = Next {
             inputs,
             made,
@@ -242,10 +254,11 @@ pub(crate) fn forms_of<F: Field>(
         };
         fill_form(alloc, &next, &mut row)?;
         terms.extend_from_slice(&row)?;
-        if terms.len() > MOST_TERMS {
+        let end = terms.len();
+        if end > MOST_TERMS {
             return Err(AllocError);
         }
-        starts.push(terms.len() as u32)?;
+        starts.push_reserved(end as u32);
     }
     Ok(Forms { terms, starts })
 }

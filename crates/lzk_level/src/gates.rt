@@ -1,9 +1,11 @@
 //! Gates.
 
-ghost use Rattle.std.specs.Prelude.{◌≡◌, ◌<◌, ◌++◌, [], ◌∷◌, length, slice_index_or, take, IfOk, OnErr};
-ghost use Rattle.lzk_level.specs.Gates.{Gate, Constant, Combine, Mul};
+ghost use Rattle.std.specs.Prelude.{◌≡◌, ◌<◌, ◌++◌, [], ◌∷◌, length, slice_index_or, take, IfOk, OnOk, OnErr};
+ghost use Rattle.lzk_level.specs.declared.gates.Made.TheVariants as stored;
+ghost use Rattle.lzk_level.specs.Gates.{Gate, Combine};
 ghost use Rattle.lzk_level.specs.FlatGates.{gate_in, gate_of, IsSpanned};
 
+use crate::list::push;
 use crate::node::Node;
 use lzk_field::Field;
 use std::alloc::{AllocError, Global};
@@ -56,41 +58,32 @@ impl<F> Model for Gates<F> {
 // All sums have so many parts at most: for more there is no memory.
 const MOST_PARTS: usize = 4_294_967_295;
 
-// Appends parts to a list, and tells where they begin and end.
-fn append<F: Field>(
-    list: &mut Vec<(F, Node)>,
-    parts: &[(F, Node)],
-) -> Result<(u32, u32), AllocError>
-    ensures added { IfOk result (λ _. list.new.items ≡ list.old.items ++ parts.now) }
-    ensures begin { IfOk result (λ span. span.0 ≡ length list.old.items) }
-    ensures end { IfOk result (λ span. span.1 ≡ length list.new.items) }
+// Appends parts to a list, and tells their sum.
+fn append<F: Field>(list: &mut Vec<(F, Node)>, parts: &[(F, Node)]) -> Result<Made<F>, AllocError>
+    ensures added { OnOk result (list.new.items ≡ list.old.items ++ parts.now) }
+    ensures sum { IfOk result (λ made. made ≡ stored.Combine (length list.old.items) (length list.new.items)) }
     ensures same { OnErr result (list.new.items ≡ list.old.items) }
 {
-    let end = list.len().saturating_add(parts.len());
+    let begin = list.len();
+    let end = begin.saturating_add(parts.len());
     if end > MOST_PARTS {
         return Err(AllocError);
     }
-    let begin = list.len() as u32;
-    list.extend_from_slice(parts)?;
-    Ok((begin, end as u32))
+    list.extend_from_slice(parts)
+        .and(Ok(Made::Combine(begin as u32, end as u32)))
 }
 
-// Appends one part.
-fn append_one<F: Field>(
-    list: &mut Vec<(F, Node)>,
-    part: (F, Node),
-) -> Result<(u32, u32), AllocError>
-    ensures added { IfOk result (λ _. list.new.items ≡ list.old.items ++ part ∷ []) }
-    ensures begin { IfOk result (λ span. span.0 ≡ length list.old.items) }
-    ensures end { IfOk result (λ span. span.1 ≡ length list.new.items) }
+// Appends one part, and tells the sum of it alone.
+fn append_one<F: Field>(list: &mut Vec<(F, Node)>, part: (F, Node)) -> Result<Made<F>, AllocError>
+    ensures added { OnOk result (list.new.items ≡ list.old.items ++ part ∷ []) }
+    ensures sum { IfOk result (λ made. made ≡ stored.Combine (length list.old.items) (length list.new.items)) }
     ensures same { OnErr result (list.new.items ≡ list.old.items) }
 {
     let begin = list.len();
     if begin >= MOST_PARTS {
         return Err(AllocError);
     }
-    list.push(part)?;
-    Ok((begin as u32, begin as u32 + 1))
+    push(list, part).and(Ok(Made::Combine(begin as u32, begin as u32 + 1)))
 }
 
 // A gate in memory, with its parts.
@@ -140,42 +133,31 @@ impl<F: Field> Gates<F> {
         lend(self.made[i], &self.parts)
     }
 
-    /// One more, which is a constant.
-    pub fn push_constant(&mut self, c: F) -> Result<(), AllocError>
-        ensures added { IfOk result (λ _. self.new ≡ self.old ++ Constant c ∷ []) }
+    /// One more, which has no parts.
+    pub fn push_alone(&mut self, gate: Made<F>) -> Result<(), AllocError>
+        requires { IsSpanned 0 gate }
+        ensures added { OnOk result (self.new ≡ self.old ++ gate_in [] gate ∷ []) }
         ensures same { OnErr result (self.new ≡ self.old) }
     {
-        self.made.push(Made::Constant(c))?;
-        Ok(())
+        push(&mut self.made, gate)
     }
 
     /// One more, which is the sum of these parts.
     pub fn push_sum(&mut self, parts: &[(F, Node)]) -> Result<(), AllocError>
-        ensures added { IfOk result (λ _. self.new ≡ self.old ++ Combine parts.now ∷ []) }
+        ensures added { OnOk result (self.new ≡ self.old ++ Combine parts.now ∷ []) }
         ensures same { OnErr result (self.new ≡ self.old) }
     {
-        let (begin, end) = append(&mut self.parts, parts)?;
-        self.made.push(Made::Combine(begin, end))?;
-        Ok(())
+        let sum = append(&mut self.parts, parts)?;
+        push(&mut self.made, sum)
     }
 
     /// One more, which is the sum of this part alone.
     pub fn push_multiple(&mut self, part: (F, Node)) -> Result<(), AllocError>
-        ensures added { IfOk result (λ _. self.new ≡ self.old ++ Combine (part ∷ []) ∷ []) }
+        ensures added { OnOk result (self.new ≡ self.old ++ Combine (part ∷ []) ∷ []) }
         ensures same { OnErr result (self.new ≡ self.old) }
     {
-        let (begin, end) = append_one(&mut self.parts, part)?;
-        self.made.push(Made::Combine(begin, end))?;
-        Ok(())
-    }
-
-    /// One more, which is the product of two nodes.
-    pub fn push_product(&mut self, x: Node, y: Node) -> Result<(), AllocError>
-        ensures added { IfOk result (λ _. self.new ≡ self.old ++ Mul x y ∷ []) }
-        ensures same { OnErr result (self.new ≡ self.old) }
-    {
-        self.made.push(Made::Mul(x, y))?;
-        Ok(())
+        let sum = append_one(&mut self.parts, part)?;
+        push(&mut self.made, sum)
     }
 
     /// Takes all gates away but the first ones. The memory of their parts is kept.

@@ -30,6 +30,7 @@ mod graph;
 mod half;
 mod laws;
 mod lets;
+mod list;
 mod maker;
 mod measure;
 mod node;

@@ -15,6 +15,7 @@ ghost use Rattle.lzk_level.specs.Makings.{IsOnTheWay, IsTaken, CanTakeWord};
 use crate::builder::Builder;
 use crate::half::{Half, nothing_of, times_before};
 use crate::lets::{Operand, let_at};
+use crate::list::push;
 use crate::node::Node;
 use crate::sum::{add_part, equate, sum_of};
 use crate::value::{join, node_of, signed_value};
@@ -39,17 +40,15 @@ pub(crate) struct Maker<F: Field> {
 fn new_maker<F: Field>(alloc: Global, code: &Code) -> Result<Maker<F>, AllocError>
     ensures { IfOk result (λ maker. held_in maker ≡ nothing_held F.ops code.now.publics code.now.privates) }
 {
-    // The code is that of some source, so its counts are small. Most gates and most parts take two words or more.
+    // The code is that of some source, so its counts are small. Most gates take two words or more.
     let words = code.words();
-    let room = words.len() / 2;
-    let parts = Vec::with_capacity(alloc, room)?;
-    let builder = Builder::with_room(alloc, code.publics(), code.privates(), room)?;
+    let builder = Builder::with_room(alloc, code.publics(), code.privates(), words.len() / 2)?;
     Ok(Maker {
         builder,
         outer: Vec::new(alloc),
         now: nothing_of(0, 0),
         ready: false,
-        parts,
+        parts: Vec::new(alloc),
         lets: Vec::new(alloc),
         outputs: Vec::new(alloc),
         left: None,
@@ -73,16 +72,20 @@ impl<F: Field> Maker<F> {
         requires operand { CanJoin (node_count self.old.builder) self.old.now.node operand }
         ensures { OnOk result (held_in self.new ≡ with_value F.ops (held_in self.old) operand) }
     {
-        match signed_value(&mut self.builder, self.now.negated, operand)? {
-            Operand::Constant(c) => self.now.number = Some(times_before(self.now.number, c)),
-            Operand::AtNode(node) => {
-                let node = join(&mut self.builder, self.now.node, node)?;
-                self.now.node = Some(node);
-            }
-        }
+        let value = signed_value(&mut self.builder, self.now.negated, operand)?;
         self.now.negated = false;
         self.ready = true;
-        Ok(())
+        match value {
+            Operand::Constant(c) => {
+                self.now.number = Some(times_before(self.now.number, c));
+                Ok(())
+            }
+            Operand::AtNode(node) => {
+                let product = join(&mut self.builder, self.now.node, node)?;
+                self.now.node = Some(product);
+                Ok(())
+            }
+        }
     }
 
     // The product is a part, and the next one has this sign.
@@ -119,9 +122,9 @@ impl<F: Field> Maker<F> {
     fn open(&mut self) -> Result<(), AllocError>
         ensures { OnOk result (held_in self.new ≡ held_opened F.ops (held_in self.old)) }
     {
-        self.outer.push(self.now)?;
+        let pushed = push(&mut self.outer, self.now);
         self.begin();
-        Ok(())
+        pushed
     }
 
     fn close(&mut self) -> Result<(), AllocError>
@@ -170,9 +173,8 @@ impl<F: Field> Maker<F> {
         ensures { OnOk result (held_in self.new ≡ held_defined F.ops (held_in self.old)) }
     {
         let operand = self.sum()?;
-        self.lets.push(operand)?;
         self.begin();
-        Ok(())
+        push(&mut self.lets, operand)
     }
 
     fn left(&mut self) -> Result<(), AllocError>
@@ -194,10 +196,9 @@ impl<F: Field> Maker<F> {
     {
         let operand = self.sum()?;
         let node = equate(&mut self.builder, &mut self.parts, self.left, operand)?;
-        self.outputs.push(node)?;
         self.left = None;
         self.begin();
-        Ok(())
+        push(&mut self.outputs, node)
     }
 
     /// Takes a word, where numbers stand in a list.
@@ -261,6 +262,6 @@ pub(crate) fn code_nodes<F: Field>(
         → IfOk result (λ made. AreBuilt F.ops F.coding.element source.statements made.0 made.1.items) }
 {
     let mut maker = new_maker(alloc, code)?;
-    take_all(&mut maker, code)?;
-    Ok(maker.finished())
+    let taken = take_all(&mut maker, code);
+    taken.and(Ok(maker.finished()))
 }

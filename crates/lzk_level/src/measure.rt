@@ -77,12 +77,14 @@ pub(crate) fn sizes_of<F: Field>(
         sizes.1.items ≡ map (min (2 ^ 64 - 1)) (after gate_weight (0 ∷ replicate inputs 1) made.now)) }
 {
     let first = 1 + inputs as usize;
-    let mut depths = Vec::with_capacity(alloc, first + made.len())?;
+    let count = made.len();
+    let all = first + count;
+    let mut depths = Vec::with_capacity(alloc, all)?;
     depths.resize(first, 0)?;
-    let mut weights = Vec::with_capacity(alloc, first + made.len())?;
+    let mut weights = Vec::with_capacity(alloc, all)?;
     weights.push_reserved(0);
     weights.resize(first, 1)?;
-    for i in 0..made.len() {
+    for i in 0..count {
         let (depth, weight) = gate_sizes(&depths, &weights, made.gate(i));
         depths.push_reserved(depth);
         weights.push_reserved(weight);

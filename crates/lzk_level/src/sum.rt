@@ -8,6 +8,7 @@ ghost use Rattle.lzk_level.specs.Steps.{HasProduct, HasParts, HasSum, HasSides};
 use crate::builder::Builder;
 use crate::half::{Half, signed};
 use crate::lets::Operand;
+use crate::list::push;
 use crate::node::Node;
 use crate::value::{node_of, product};
 use lzk_field::Field;
@@ -18,7 +19,10 @@ fn total_with<F: Field>(minus: bool, total: Option<F>, part: Operand<F>) -> Opti
     ensures { result ≡ total_with F.ops minus total part }
 {
     match part {
-        Operand::Constant(c) => Some(total?.add(signed(minus, c))),
+        Operand::Constant(c) => match total {
+            None => None,
+            Some(total) => Some(total.add(signed(minus, c))),
+        },
         Operand::AtNode(_) => None,
     }
 }
@@ -36,8 +40,8 @@ pub(crate) fn add_part<F: Field>(
 {
     let product = product(builder, half.number, half.node)?;
     let node = node_of(builder, product)?;
-    parts.push((signed(half.minus, F::one()), node))?;
-    Ok(total_with(half.minus, half.total, product))
+    let total = total_with(half.minus, half.total, product);
+    push(parts, (signed(half.minus, F::one()), node)).and(Ok(total))
 }
 
 // The value of parts: where all are numbers, their nodes go, which stand behind so many gates.
@@ -75,9 +79,9 @@ pub(crate) fn sum_of<F: Field>(
         return product(builder, half.number, half.node);
     }
     let total = add_part(builder, parts, half)?;
-    let operand = sum_of_parts(builder, half.base, &parts[half.begin..], total)?;
+    let operand = sum_of_parts(builder, half.base, &parts[half.begin..], total);
     parts.truncate(half.begin);
-    Ok(operand)
+    operand
 }
 
 // The difference of two nodes, whose parts stand for a while behind the others.
@@ -93,11 +97,11 @@ fn difference<F: Field>(
     ensures parts { IfOk result (λ _. parts.new.items ≡ parts.old.items) }
 {
     let begin = parts.len();
-    parts.push((F::one(), left))?;
-    parts.push((F::one().neg(), right))?;
-    let node = builder.combine(&parts[begin..])?;
+    push(parts, (F::one(), left))?;
+    push(parts, (F::one().neg(), right))?;
+    let node = builder.combine(&parts[begin..]);
     parts.truncate(begin);
-    Ok(node)
+    node
 }
 
 /// The difference of an equation's sides; where there is no left side, it is that of the right one with itself.

@@ -1,6 +1,6 @@
 //! Levels one above the other, from the inputs up.
 
-ghost use Rattle.std.specs.Prelude.{◌≡◌, ℕ, ◌+◌, ◌-◌, ◌<◌, ◌≤◌, List, length, map, IfOk};
+ghost use Rattle.std.specs.Prelude.{◌≡◌, ℕ, ◌+◌, ◌-◌, ◌<◌, ◌≤◌, List, [], ◌∷◌, ◌++◌, length, map, IfOk};
 ghost use Rattle.lzk_circuit_reduce.specs.Renumbering.{at};
 ghost use Rattle.lzk_level.specs.Checking.{of_depth};
 ghost use Rattle.lzk_level.specs.Stacking.{AreOutputs, AreNeededTo};
@@ -62,15 +62,17 @@ fn no_layers<F: Field>(alloc: Global, graph: &Graph<'_, F>) -> Result<Tower<F>, 
     })
 }
 
-// The wires of a level that are those of the asserted nodes of its depth.
-fn level_targets(
+// Adds what is asserted of a level: the wires of the asserted nodes of its depth.
+fn add_targets(
     alloc: Global,
     depths: &[u32],
     level: u32,
     asserts: &[Node],
     numbers: &[u32],
-) -> Result<Targets, AllocError>
-    ensures { IfOk result (λ wires. wires ≡ map (at numbers.now) (of_depth depths.now level asserts.now)) }
+    targets: &mut Vec<Targets>,
+) -> Result<(), AllocError>
+    ensures { IfOk result (λ _. targets.new.items ≡ targets.old.items
+        ++ map (at numbers.now) (of_depth depths.now level asserts.now) ∷ []) }
 {
     let mut wires = Vec::new(alloc);
     for i in 0..asserts.len() {
@@ -79,7 +81,8 @@ fn level_targets(
             wires.push(of_node(numbers, node))?;
         }
     }
-    Ok(Targets::new(wires))
+    targets.push(Targets::new(wires))?;
+    Ok(())
 }
 
 // One level more.
@@ -100,8 +103,14 @@ fn raise<F: Field>(
         (node_form graph.now.inputs graph.now.forms.now)
         graph.now.depths.now graph.now.last.now asserts.now level tower.new) }
 {
-    let wires = level_targets(alloc, graph.depths, level - 1, asserts, &tower.below)?;
-    tower.targets.push(wires)?;
+    add_targets(
+        alloc,
+        graph.depths,
+        level - 1,
+        asserts,
+        &tower.below,
+        &mut tower.targets,
+    )?;
     let most = pass_nodes(graph, level, &mut tower.next);
     let layer = inner_layer(
         alloc,
@@ -137,8 +146,14 @@ fn raise_all<F: Field>(
     for level in 1..count {
         raise(alloc, graph, asserts, level, tower)?;
     }
-    let wires = level_targets(alloc, graph.depths, count - 1, asserts, &tower.below)?;
-    tower.targets.push(wires)?;
+    add_targets(
+        alloc,
+        graph.depths,
+        count - 1,
+        asserts,
+        &tower.below,
+        &mut tower.targets,
+    )?;
     let layer = top_layer(alloc, graph, count, outputs, &tower.below)?;
     tower.layers.push(layer)?;
     tower.layers.reverse();

@@ -39,12 +39,13 @@ pub(crate) fn signed_value<F: Field>(
     ensures nodes { IfOk result (λ _. builder.new ≡ (signed_in F.ops negated builder.old operand).nodes) }
     ensures operand { IfOk result (λ value. value ≡ (signed_in F.ops negated builder.old operand).operand) }
 {
-    if !negated {
-        return Ok(operand);
-    }
-    match operand {
-        Operand::Constant(c) => Ok(Operand::Constant(c.neg())),
-        Operand::AtNode(node) => Ok(Operand::AtNode(builder.multiple(F::one().neg(), node)?)),
+    if negated {
+        match operand {
+            Operand::Constant(c) => Ok(Operand::Constant(c.neg())),
+            Operand::AtNode(node) => builder.multiple(F::one().neg(), node),
+        }
+    } else {
+        Ok(operand)
     }
 }
 
@@ -77,11 +78,11 @@ pub(crate) fn product<F: Field>(
     ensures nodes { IfOk result (λ _. builder.new ≡ (product_in F.ops builder.old number node).nodes) }
     ensures operand { IfOk result (λ value. value ≡ (product_in F.ops builder.old number node).operand) }
 {
-    let Some(node) = node else {
-        return Ok(Operand::Constant(number.unwrap_or(F::one())));
-    };
-    match number {
-        None => Ok(Operand::AtNode(node)),
-        Some(c) => Ok(Operand::AtNode(builder.multiple(c, node)?)),
+    match node {
+        None => Ok(Operand::Constant(number.unwrap_or(F::one()))),
+        Some(node) => match number {
+            None => Ok(Operand::AtNode(node)),
+            Some(c) => builder.multiple(c, node),
+        },
     }
 }

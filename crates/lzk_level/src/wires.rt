@@ -156,10 +156,7 @@ pub(crate) fn inner_layer<F: Field>(
 {
     let mut kept = none_kept(alloc, most)?;
     let mut row = Vec::new(alloc);
-    copy_row(&mut row, 0)?;
-    let one = wire_of(&mut kept, &row)?;
-    set_number(here, 0, one);
-    let mut k = number_at(next, 0) as usize;
+    let mut k = 0;
     while k < here.len() {
         if has_wire(graph, level, k) {
             node_row(alloc, graph, level, k, below, &mut row)?;

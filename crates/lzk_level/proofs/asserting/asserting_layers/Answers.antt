@@ -1,5 +1,5 @@
 use Rattle.std.proofs.Common.{◌∙◌, ap, subst, length, map, arith}
-use Rattle.std.proofs.lemmas.Result.{IfOk-weaker}
+use Rattle.std.proofs.lemmas.Result.{IfOk-weaker, IfOk-from_err}
 use Rattle.lzk_circuit_reduce.specs.Attached.{IsAssertingForm}
 use Rattle.lzk_circuit_reduce.specs.Renumbering.{at}
 use Rattle.lzk_level.specs.Checking.{of_depth, AreAsserting}
@@ -85,3 +85,12 @@ returns g c =
     let s = stack g (goal.at.returns g c).In_ok-layers in
     IfOk-weaker c.asserting_used.result (λ ls. IsAssertingForm o number inputs ws layers ls.items) (λ ls. AreAsserting o number inputs made depths asserts count ls.items)
     (λ ls h. stack-asserting o inputs made depths asserts s.form count c.requires s.values s.weights layers ws s.stack number ls.items h) c.asserting_used.ensures
+
+pub returns-in_err-outputs : goal.returns-in_err-outputs
+returns-in_err-outputs g c = IfOk-from_err _ _ c.from_residual.ensures.0
+
+pub returns-in_err-layers : goal.returns-in_err-layers
+returns-in_err-layers g c = IfOk-from_err _ _ c.from_residual-in_err-layers.ensures.0
+
+pub stack_of-requires-clause-graph : goal.stack_of-requires-clause-graph
+stack_of-requires-clause-graph g c κs within = c.requires.graph

@@ -10,10 +10,13 @@ use Rattle.lzk_level.specs.Checking.{check_of, AreAsserts, AreAsserting}
 use Rattle.lzk_level.specs.Nodes.{Nodes, node_values, AreGates}
 use Rattle.lzk_level.proofs.AssertedLaws.{asserts-of, check-value}
 use Rattle.lzk_level.proofs.FinishLaws.{ready-values, ready-inputs, valid-layers-v2, layers-most, greatest-some}
+use Rattle.std.proofs.lemmas.Result.{IfOk-from_err}
+use Rattle.lzk_level.specs.declared.fault.LevelError.TheVariants.{OutOfMemory}
+use Rattle.lzk_level.proofs.CompiledLaws.{handed_on}
 use Rattle.lzk_level.proofs.asserting.laid_out.Goals as goal
 
-pub asserting_layers-requires-after_bounds : goal.asserting_layers-requires-after_bounds
-asserting_layers-requires-after_bounds g c κs within =
+pub asserting_layers-result-requires-after_bounds : goal.asserting_layers-result-requires-after_bounds
+asserting_layers-result-requires-after_bounds g c κs within =
     let n = c.args.builder in
     let p = n.publics in
     let q = n.privates in
@@ -90,3 +93,27 @@ returns-clause-circuit g c =
       reduced = subst (λ w. IsReducedAsserting g.F.Field.ops w.layers) (sym is_circuit) all.reduced;
       within = c.in_ok-depths.ensures.within;
     }
+
+pub overflow_cast-asserts : goal.overflow_cast-asserts
+overflow_cast-asserts g c = omega (arith, c.requires.asserts)
+
+pub measured-requires-after_bounds : goal.measured-requires-after_bounds
+measured-requires-after_bounds g c κs within = c.requires.asserts
+
+pub returns-in_err-depths-clause-circuit : goal.returns-in_err-depths-clause-circuit
+returns-in_err-depths-clause-circuit g c = IfOk-from_err _ _ c.from_residual.ensures.0
+
+pub overflow_add-inputs : goal.overflow_add-inputs
+overflow_add-inputs g c = omega (arith, c.builder.invariant.0)
+
+pub overflow_add-inputs-2 : goal.overflow_add-inputs-2
+overflow_add-inputs-2 g c = omega (arith, c.builder.invariant.2)
+
+pub returns-in_err-layers-clause-circuit : goal.returns-in_err-layers-clause-circuit
+returns-in_err-layers-clause-circuit g c = IfOk-from_err _ _ c.from_residual-in_err-layers.ensures.0
+
+pub returns-in_err-depths-clause-fault : goal.returns-in_err-depths-clause-fault
+returns-in_err-depths-clause-fault g c = handed_on _ _ c.in_err-depths.field-0.0 c.from_residual.ensures.1 c.in_err-depths.ensures.fault
+
+pub returns-in_err-layers-clause-fault : goal.returns-in_err-layers-clause-fault
+returns-in_err-layers-clause-fault g c = handed_on _ _ OutOfMemory c.from_residual-in_err-layers.ensures.1 tt

@@ -4,7 +4,9 @@ use Rattle.lzk_level.specs.Bounds.{IsFaultOf}
 use Rattle.lzk_level.specs.Compiling.{nodes_of}
 use Rattle.lzk_level.specs.CompiledCode.{IsCircuitIn, limit_of_made}
 use Rattle.lzk_level.specs.Finished.{AreBuilt}
-use Rattle.lzk_level.proofs.CompiledLaws.{built-count, built-nodes, circuit-over, circuit-over-v2, built-fault, built-fault-v2}
+use Rattle.lzk_level.proofs.CompiledLaws.{built-count, built-nodes, circuit-over, circuit-over-v2, built-fault, built-fault-v2, handed_on}
+use Rattle.std.proofs.lemmas.Result.{IfOk-from_err}
+use Rattle.lzk_level.specs.declared.fault.LevelError.TheVariants.{OutOfMemory}
 use Rattle.lzk_level.proofs.compiling.compile_over.Goals as goal
 
 pub finish-requires-clause-some : goal.finish-requires-clause-some
@@ -84,3 +86,9 @@ returns-clause-fault g c = λ source is.
     let e = c.finish_v2.ensures in
     subst (λ v. IfErr c.finish_v2.result (IsFaultOf (limit_of_made v (nodes_of o element ss)))) (sym c.in-Two.is)
     (built-fault-v2 o element ss c.in_ok-builder.builder c.deref-in-Two.result.now c.finish_v2.result b.nodes (c.deref-in-Two.ensures.value ∙ b.outputs_are) e.fault)
+
+pub returns-in_err-builder-clause-circuit : goal.returns-in_err-builder-clause-circuit
+returns-in_err-builder-clause-circuit g c source is = IfOk-from_err _ _ c.from_residual.ensures.0
+
+pub returns-in_err-builder-clause-fault : goal.returns-in_err-builder-clause-fault
+returns-in_err-builder-clause-fault g c source is = handed_on _ _ OutOfMemory c.from_residual.ensures.1 tt

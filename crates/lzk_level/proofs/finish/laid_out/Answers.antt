@@ -1,4 +1,4 @@
-use Rattle.std.proofs.Common.{[], ◌≡◌, ◌∙◌, ap, sym, subst, ◌+◌, ◌*◌, ◌≤◌, length, map, arith}
+use Rattle.std.proofs.Common.{[], ◌≡◌, ◌∙◌, ap, sym, subst, ◌+◌, ◌*◌, ◌≤◌, length, map, arith, refl}
 use Rattle.lzk_profile.specs.Profile.{most_total}
 use Rattle.lzk_circuit.specs.Wires.{inputs_of, wires_of}
 use Rattle.lzk_level.specs.Levels.{IsGraph}
@@ -7,12 +7,15 @@ use Rattle.lzk_level.specs.Stacks.{IsStackOver}
 use Rattle.lzk_circuit_reduce.specs.Reduced.{IsReduced}
 use Rattle.lzk_circuit_reduce.specs.Renumbering.{at}
 use Rattle.lzk_level.specs.Bounds.{node_depths, node_weights, layer_count, wire_bound, term_bound, total}
-use Rattle.lzk_level.proofs.AfterLaws.{no-further}
+use Rattle.lzk_level.proofs.AfterLaws.{no-further, no-further-error}
 use Rattle.lzk_level.proofs.FinishLaws.{is-graph, ready-weights, ready-values, ready-inputs, within-limits, greatest-some, greatest-each, depths-long, inputs-long, valid-layers}
+use Rattle.std.proofs.lemmas.Result.{IfOk-from_err}
+use Rattle.lzk_level.specs.declared.fault.LevelError.TheVariants.{OutOfMemory}
+use Rattle.lzk_level.proofs.CompiledLaws.{handed_on}
 use Rattle.lzk_level.proofs.finish.laid_out.Goals as goal
 
-pub stack_of-requires-clause-graph : goal.stack_of-requires-clause-graph
-stack_of-requires-clause-graph g c κs within =
+pub stack_of-result-requires-clause-graph : goal.stack_of-result-requires-clause-graph
+stack_of-result-requires-clause-graph g c κs within =
     let n = c.args.builder in
     let p = n.publics in
     let q = n.privates in
@@ -27,8 +30,8 @@ stack_of-requires-clause-graph g c κs within =
     let w = within-limits (layer_count n outputs) (wire_bound n) (term_bound n outputs) (sym (no-further n outputs) ∙ e.within) in
     subst (λ m. IsGraph inputs m c.deref.result.now) (sym same) (is-graph inputs p q n.made c.deref.result.now width is gates (omega (arith, w.wires_most)))
 
-pub stack_of-requires-clause-outputs : goal.stack_of-requires-clause-outputs
-stack_of-requires-clause-outputs g c κs within =
+pub stack_of-result-requires-clause-outputs : goal.stack_of-result-requires-clause-outputs
+stack_of-result-requires-clause-outputs g c κs within =
     let n = c.args.builder in
     let outputs = c.args.outputs.now in
     let e = c.in_ok-depths.ensures in
@@ -109,3 +112,45 @@ returns-clause-circuit g c =
       reduced = subst (λ w. IsReduced g.F.Field.ops w.layers) (sym is_circuit) c.in_ok-layers-2.ensures.reduced;
       within = sym (no-further c.args.builder c.args.outputs.now) ∙ c.in_ok-depths.ensures.within;
     }
+
+pub measured-requires-after_bounds : goal.measured-requires-after_bounds
+measured-requires-after_bounds g c κs within = omega arith
+
+pub returns-in_err-depths-clause-circuit : goal.returns-in_err-depths-clause-circuit
+returns-in_err-depths-clause-circuit g c = IfOk-from_err _ _ c.from_residual.ensures.0
+
+pub overflow_add-inputs : goal.overflow_add-inputs
+overflow_add-inputs g c = omega (arith, c.builder.invariant.0)
+
+pub overflow_add-inputs-2 : goal.overflow_add-inputs-2
+overflow_add-inputs-2 g c = omega (arith, c.builder.invariant.2)
+
+pub overflow_cast-inputs : goal.overflow_cast-inputs
+overflow_cast-inputs g c = omega (arith, c.builder.invariant.2)
+
+pub slice_bounds-stack_of-end : goal.slice_bounds-stack_of-end
+slice_bounds-stack_of-end g c = refl
+
+pub stack_of-result-requires-clause-asserts : goal.stack_of-result-requires-clause-asserts
+stack_of-result-requires-clause-asserts g c κs within i l = absurd (omega (arith, l))
+
+pub returns-in_err-layers-clause-circuit : goal.returns-in_err-layers-clause-circuit
+returns-in_err-layers-clause-circuit g c = IfOk-from_err _ _ c.from_residual-in_err-layers.ensures.0
+
+pub used-requires-clause-ones : goal.used-requires-clause-ones
+used-requires-clause-ones g c κs within = c.in_ok-layers.ensures.stack.ones
+
+pub used-requires-clause-different : goal.used-requires-clause-different
+used-requires-clause-different g c κs within = c.in_ok-layers.ensures.stack.different
+
+pub returns-in_err-layers-2-clause-circuit : goal.returns-in_err-layers-2-clause-circuit
+returns-in_err-layers-2-clause-circuit g c = IfOk-from_err _ _ c.from_residual-in_err-layers-2.ensures.0
+
+pub returns-in_err-layers-clause-fault : goal.returns-in_err-layers-clause-fault
+returns-in_err-layers-clause-fault g c = handed_on _ _ OutOfMemory c.from_residual-in_err-layers.ensures.1 tt
+
+pub returns-in_err-layers-2-clause-fault : goal.returns-in_err-layers-2-clause-fault
+returns-in_err-layers-2-clause-fault g c = handed_on _ _ OutOfMemory c.from_residual-in_err-layers-2.ensures.1 tt
+
+pub returns-in_err-depths-clause-fault : goal.returns-in_err-depths-clause-fault
+returns-in_err-depths-clause-fault g c = handed_on _ _ c.in_err-depths.field-0.0 c.from_residual.ensures.1 (no-further-error c.args.builder c.args.outputs.now c.in_err-depths.field-0.0 c.in_err-depths.ensures.fault)

@@ -1,5 +1,5 @@
 use Rattle.std.proofs.Common.{sym, subst}
-use Rattle.std.proofs.lemmas.Result.{IfOk-weaker}
+use Rattle.std.proofs.lemmas.Result.{IfOk-weaker, IfOk-from_err}
 use Rattle.lzk_level.specs.Stacking.{AreNeededTo}
 use Rattle.lzk_level.specs.Stacks.{AreAssertable, IsStack, IsStackOver}
 use Rattle.lzk_level.specs.Uses.{node_form, AreUses}
@@ -36,3 +36,21 @@ returns g c =
     let are = c.in_ok-forms.ensures in
     IfOk-weaker c.stacked.result (λ s. IsStack o inputs form depths count outputs asserts s.0.items s.1.items) (λ s. IsStackOver o inputs made depths count outputs asserts s.0.items s.1.items)
     (λ s h. record { form = form; stack = h; values = values-formed o inputs made depths forms graph are; weights = weights-formed o inputs made depths forms graph are }) c.stacked.ensures
+
+pub forms_of-result-requires-after_bounds : goal.forms_of-result-requires-after_bounds
+forms_of-result-requires-after_bounds g c κs within = c.requires.graph
+
+pub returns-in_err-forms : goal.returns-in_err-forms
+returns-in_err-forms g c = IfOk-from_err _ _ c.from_residual.ensures.0
+
+pub last_uses-requires-clause-outputs : goal.last_uses-requires-clause-outputs
+last_uses-requires-clause-outputs g c κs within = c.requires.outputs
+
+pub last_uses-requires-clause-asserts : goal.last_uses-requires-clause-asserts
+last_uses-requires-clause-asserts g c κs within = c.requires.asserts
+
+pub returns-in_err-last : goal.returns-in_err-last
+returns-in_err-last g c = IfOk-from_err _ _ c.from_residual-in_err-last.ensures.0
+
+pub stacked-requires-clause-outputs : goal.stacked-requires-clause-outputs
+stacked-requires-clause-outputs g c κs within = c.requires.outputs

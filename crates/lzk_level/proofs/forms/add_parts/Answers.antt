@@ -2,6 +2,8 @@ use Rattle.std.proofs.Common.{◌≡◌, ◌∙◌, ℕ, ◌+◌, ◌++◌, ◌�
 use Rattle.std.proofs.lemmas.List.{take_all, take_more}
 use Rattle.lzk_level.specs.Forms.{IsPart, IsSumForm}
 use Rattle.lzk_level.proofs.NodeForms.{no-parts}
+use Rattle.std.proofs.lemmas.Result.{IfOk-from_err}
+use Rattle.std.proofs.lemmas.Bool.{false≢true, true≢false}
 use Rattle.lzk_level.proofs.forms.add_parts.Goals as goal
 
 pub loop-j-init : goal.loop-j-init
@@ -44,3 +46,21 @@ pub returns-clause-all : goal.returns-clause-all
 returns-clause-all g c e =
     let n = c.args.next.now in
     subst (λ ps. IsSumForm g.F.Field.ops n.inputs n.made.now n.depths.now (n.inputs + n.i) n.depth ps c.loop-j.row.items) (take_all c.loop-j.j c.args.parts.now (omega (arith, c.loop-j-test.false))) c.loop-j.invariant.sum
+
+pub offset_bounds-parts-j : goal.offset_bounds-parts-j
+offset_bounds-parts-j g c = omega (arith, c.loop-j-test.true)
+
+pub bounds-parts-j : goal.bounds-parts-j
+bounds-parts-j g c = c.loop-j-test.true
+
+pub returns-then-is_part_late-clause-all : goal.returns-then-is_part_late-clause-all
+returns-then-is_part_late-clause-all g c e = absurd (false≢true e)
+
+pub returns-in_err-add_part-clause-all : goal.returns-in_err-add_part-clause-all
+returns-in_err-add_part-clause-all g c = IfOk-from_err _ _ c.from_residual.ensures.0
+
+pub returns-in_err-add_part-clause-many : goal.returns-in_err-add_part-clause-many
+returns-in_err-add_part-clause-many g c = IfOk-from_err _ _ c.from_residual.ensures.0
+
+pub returns-clause-many : goal.returns-clause-many
+returns-clause-many g c e = absurd (true≢false e)

@@ -58,3 +58,6 @@ returns-in-Mul g c =
     (λ _ p.
     let own = subst (λ m. IsProduct o c.one.result x m new) c.number-in-Mul.ensures (subst (λ m. IsProduct o c.one.result m b new) c.number.ensures p) in
     product-form o g.F.Field.laws.ring n.inputs made depths n.i n.depth c.one.result x y new n.next.depth_is facts c.one.ensures own) c.fill_product-in-Mul.ensures
+
+pub gate-requires-after_bounds : goal.gate-requires-after_bounds
+gate-requires-after_bounds g c κs within = c.args.next.now.next.there

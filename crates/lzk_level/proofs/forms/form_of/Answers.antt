@@ -25,3 +25,6 @@ returns g c =
     let high = next-high o n.inputs n.made.now n.depths.now n.starts.now n.terms.now n.i n.depth n.next in
     let behind = beside-made o n.inputs n.made.now n.depths.now n.starts.now n.terms.now n.i n.depth c.args.k n.next high c.requires.deep in
     form-beside o n.inputs n.made.now n.depths.now n.starts.now n.terms.now c.form_at.result.now n.i n.depth c.args.k n.next behind c.requires.part c.form_at.ensures
+
+pub form_at-requires-clause-pieces : goal.form_at-requires-clause-pieces
+form_at-requires-clause-pieces g c κs within = c.args.next.now.next.pieces

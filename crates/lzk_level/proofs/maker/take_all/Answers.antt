@@ -4,6 +4,7 @@ use Rattle.lzk_expr.specs.Codes.{code_words, code_word, code_done, nameless}
 use Rattle.lzk_expr.specs.declared.code.Word.TheVariants as word
 use Rattle.lzk_level.specs.Steps.{Held, held_in}
 use Rattle.lzk_level.specs.Makings.{IsOnTheWay}
+use Rattle.lzk_level.proofs.FlatGateLaws.{not-on-ok}
 use Rattle.lzk_level.proofs.WayLaws.{source-start}
 use Rattle.lzk_level.proofs.TakeLaws.{words-from, can-take}
 use Rattle.std.proofs.Common.{get_or}
@@ -50,3 +51,9 @@ returns-clause-way g c = λ source is.
     let code = c.args.code.now in
     let none = at_drop_all (code_words code.numbers) code.words c.loop-i.i (omega (arith, c.loop-i-test.false, ap length c.words-words.ensures.words)) in
     subst (λ ws. IsOnTheWay g.F.Field.ops g.F.Field.coding.element code.publics code.privates ws (code_done (nameless source.statements)) (held_in c.loop-i.maker)) none (c.loop-i.invariant source is)
+
+pub returns-in_err-take : goal.returns-in_err-take
+returns-in_err-take g c = record { some = c.words-words.ensures.some; way = λ source is. not-on-ok _ c.from_residual.result _ c.from_residual.ensures.1 }
+
+pub returns-clause-some : goal.returns-clause-some
+returns-clause-some g c = c.words-words.ensures.some

@@ -17,3 +17,12 @@ returns c all e =
     let capped : c.saturating_add-terms.result ≡ cap terms =
     c.saturating_add-terms.ensures ∙ omega (arith, c.add_all.ensures, own.weight, capped-all (layers * wires) (most * wires) weights all outputs (ap (λ l. l * wires) own.depth) e) in
     subst (λ l. MatchResult c.check.result (λ count. (count ≡ l) × (limit_fault l wires terms ≡ None)) (λ fault. limit_fault l wires terms ≡ Some fault)) own.depth (c.check.ensures terms capped)
+
+pub overflow_cast-wires : goal.overflow_cast-wires
+overflow_cast-wires c = omega (arith, c.requires)
+
+pub overflow_add-wires : goal.overflow_add-wires
+overflow_add-wires c = omega (arith, c.requires)
+
+pub overflow_cast-copies-2 : goal.overflow_cast-copies-2
+overflow_cast-copies-2 c = omega (arith, c.requires)

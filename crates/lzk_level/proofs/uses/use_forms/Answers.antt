@@ -53,3 +53,12 @@ returns-clause-used g c =
     let depths = c.args.depths.now in
     let inputs = c.args.inputs in
     all-served (node_form inputs c.args.forms.now) depths c.loop-j.last.items inputs (length depths - c.loop-j.j) (omega (arith, c.loop-j-test.false)) c.loop-j.invariant.served
+
+pub overflow_sub-count : goal.overflow_sub-count
+overflow_sub-count g c = c.requires.formed.within
+
+pub returns-clause-count : goal.returns-clause-count
+returns-clause-count g c = c.loop-j.invariant.count
+
+pub returns-clause-grown : goal.returns-clause-grown
+returns-clause-grown g c = c.loop-j.invariant.grown

@@ -1,4 +1,4 @@
-use Rattle.std.proofs.Common.{◌∙◌, arith, length, subst}
+use Rattle.std.proofs.Common.{◌∙◌, arith, length, subst, refl}
 use Rattle.std.proofs.lemmas.List.{take_all}
 use Rattle.lzk_level.specs.Uses.{AreUsedTo}
 use Rattle.lzk_level.proofs.UseLaws.{term-before, uses-next}
@@ -32,3 +32,21 @@ loop-i-preserved g c =
 
 pub returns-clause-used : goal.returns-clause-used
 returns-clause-used g c = subst (AreUsedTo c.loop-i.last.items c.args.level) (take_all c.loop-i.i c.args.terms.now (omega (arith, c.loop-i-test.false))) c.loop-i.invariant.used
+
+pub loop-i-init : goal.loop-i-init
+loop-i-init g c = record { count = refl; grown = λ j. omega arith; others = λ k h j l. refl; used = λ i t l. absurd (omega (arith, l)) }
+
+pub offset_bounds-terms-i : goal.offset_bounds-terms-i
+offset_bounds-terms-i g c = omega (arith, c.loop-i-test.true)
+
+pub bounds-terms-i : goal.bounds-terms-i
+bounds-terms-i g c = c.loop-i-test.true
+
+pub returns-clause-count : goal.returns-clause-count
+returns-clause-count g c = c.loop-i.invariant.count
+
+pub returns-clause-grown : goal.returns-clause-grown
+returns-clause-grown g c = c.loop-i.invariant.grown
+
+pub returns-clause-others : goal.returns-clause-others
+returns-clause-others g c = c.loop-i.invariant.others

@@ -3,6 +3,8 @@ use Rattle.std.proofs.lemmas.List.{take_all}
 use Rattle.lzk_field.specs.Sums.{entry}
 use Rattle.lzk_circuit_reduce.specs.Rows.{IsRow, row_value}
 use Rattle.lzk_level.proofs.NumberedLaws.{under-at, carry-at, term-carried, value-adds}
+use Rattle.std.proofs.lemmas.Result.{IfOk-from_err}
+use Rattle.std.proofs.lemmas.Bool.{false≢true, true≢false}
 use Rattle.lzk_level.proofs.wires.add_terms.Goals as goal
 
 pub loop-term-init : goal.loop-term-init
@@ -46,3 +48,18 @@ returns-clause-all g c e =
     let i = c.loop-term.invariant in
     let whole : take c.loop-term.term-index form ≡ form = take_all c.loop-term.term-index form (omega (arith, c.loop-term-test.false)) in
     record { is = i.row; value = λ values wires h. i.value values wires h ∙ ap (row_value o values) whole; short = omega (arith, i.short, ap length whole, c.loop-term.auto.term-index-end) }
+
+pub offset_bounds-form-term-index : goal.offset_bounds-form-term-index
+offset_bounds-form-term-index g c = omega (arith, c.loop-term-test.true)
+
+pub returns-then-is_late-clause-all : goal.returns-then-is_late-clause-all
+returns-then-is_late-clause-all g c e = absurd (false≢true e)
+
+pub returns-in_err-add_term-clause-all : goal.returns-in_err-add_term-clause-all
+returns-in_err-add_term-clause-all g c = IfOk-from_err _ _ c.from_residual.ensures.0
+
+pub returns-in_err-add_term-clause-many : goal.returns-in_err-add_term-clause-many
+returns-in_err-add_term-clause-many g c = IfOk-from_err _ _ c.from_residual.ensures.0
+
+pub returns-clause-many : goal.returns-clause-many
+returns-clause-many g c e = absurd (true≢false e)

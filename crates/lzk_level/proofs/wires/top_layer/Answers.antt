@@ -4,6 +4,7 @@ use Rattle.lzk_circuit_reduce.specs.Renumbering.{at}
 use Rattle.lzk_level.specs.Uses.{node_form}
 use Rattle.lzk_level.specs.Wires.{IsDue, IsNodeRow}
 use Rattle.lzk_level.proofs.TopLaws.{outer-starts, outer-adds, outer-ends}
+use Rattle.std.proofs.lemmas.Result.{IfOk-from_err}
 use Rattle.lzk_level.proofs.wires.top_layer.Goals as goal
 
 pub loop-g-init : goal.loop-g-init
@@ -49,3 +50,21 @@ returns g c width w =
     let top : c.loop-g.g ≡ length outputs = omega (arith, c.loop-g-test.false, c.loop-g.auto.g-end) in
     outer-ends g.F.Field.ops graph.inputs (node_form graph.inputs graph.forms.now) graph.depths.now graph.last.now c.args.level c.args.below.now outputs width c.loop-g.g c.loop-g.terms.items (record { wires = length outputs; terms = c.new.result })
     top refl c.new.ensures w c.loop-g.invariant
+
+pub returns-in_err-node_row : goal.returns-in_err-node_row
+returns-in_err-node_row g c width w = IfOk-from_err _ _ c.from_residual.ensures.0
+
+pub returns-in_err-append : goal.returns-in_err-append
+returns-in_err-append g c width w = IfOk-from_err _ _ c.from_residual-in_err-append.ensures.0
+
+pub bounds-outputs-g : goal.bounds-outputs-g
+bounds-outputs-g g c = c.loop-g-test.true
+
+pub overflow_cast-number : goal.overflow_cast-number
+overflow_cast-number g c = omega (arith, c.number.type_inv)
+
+pub overflow_cast-g : goal.overflow_cast-g
+overflow_cast-g g c = omega (arith, c.loop-g-test.true, c.requires.outputs.few)
+
+pub overflow_cast-result : goal.overflow_cast-result
+overflow_cast-result g c = omega (arith, c.requires.outputs.few)

@@ -1,4 +1,5 @@
-use Rattle.std.proofs.Common.{◌∙◌, ap, sym, subst, arith, None, ◌++◌, List}
+use Rattle.std.proofs.Common.{◌∙◌, ap, sym, subst, arith, None, ◌++◌, List, length, [], ◌∷◌}
+use Rattle.std.proofs.lemmas.List.{length-append}
 use Rattle.std.specs.Option.{option_to_list}
 use Rattle.std.proofs.lemmas.Result.{on_ok_weaker}
 use Rattle.lzk_level.specs.Nodes.{node_count}
@@ -55,3 +56,7 @@ pub value-requires-clause-room : goal.value-requires-clause-room
 value-requires-clause-room g c κs within =
     let m = held_in c.args.self.now in
     omega (arith, c.requires.can.room, (sum-ended g.F.Field.ops m.nodes m.now m.parts None c.requires.can.node tt).few, ap (λ (h : Held _). node_count h.nodes) c.in_ok-operand.ensures.held)
+
+pub returns-in-None : goal.returns-in-None
+returns-in-None g c = λ outer before is.
+    absurd (omega (arith, c.in-None.ensures.cases.0, c.sum.new.self.outer.ok.0, ap (λ (h : Held _). length h.outer) c.in_ok-operand.ensures.held, ap length is, length-append outer (before ∷ [])))

@@ -10,3 +10,9 @@ returns-clause-held g c =
     let n = c.sum_of.new.builder in
     let ps = c.sum_of.new.parts.items in
     ok-both c.sum_of.result (λ _. n ≡ (held_sum o m).nodes) (λ _. ps ≡ take m.now.begin m.parts) (λ _. held_with m n ps ≡ sum_ended o m) (λ _ e f. ap₂ (held_with m) e f) c.sum_of.ensures.nodes c.sum_of.ensures.parts
+
+pub sum_of-requires-after_bounds : goal.sum_of-requires-after_bounds
+sum_of-requires-after_bounds g c κs within = c.requires
+
+pub returns-clause-value : goal.returns-clause-value
+returns-clause-value g c = c.sum_of.ensures.value

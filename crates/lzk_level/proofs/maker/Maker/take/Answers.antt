@@ -1,10 +1,12 @@
-use Rattle.std.proofs.Common.{arith, ◌∙◌, ap, sym, subst, ◌≡◌, ℕ, List, [], ◌∷◌, ◌++◌, Some}
+use Rattle.std.proofs.Common.{arith, ◌<◌, ◌∙◌, ap, sym, subst, ◌≡◌, ℕ, List, [], ◌∷◌, ◌++◌, Some}
 use Rattle.std.proofs.lemmas.Result.{on_ok_weaker}
 use Rattle.lzk_level.specs.Nodes.{node_count}
 use Rattle.lzk_level.specs.Compilable.{IsOperand}
 use Rattle.lzk_level.specs.Compiling.{scope, let_at}
 use Rattle.lzk_level.specs.declared.half.Half.{Half}
 use Rattle.lzk_level.specs.Steps.{held_in, held_closed, held_right}
+use Rattle.lzk_expr.specs.Codes.{code_word}
+use Rattle.lzk_level.specs.Makings.{IsWordWithin}
 use Rattle.lzk_level.proofs.MadeLaws.{operand-at}
 use Rattle.lzk_level.proofs.StepLaws.{can-join}
 use Rattle.lzk_level.proofs.TakeLaws.{on-ok-one, on-ok-two, taken-number, taken-public, taken-private, taken-named, taken-plus, taken-minus, taken-times, taken-open, taken-close, taken-define, taken-left, taken-right}
@@ -118,3 +120,43 @@ close-requires-clause-can g c κs within = record { room = omega (arith, c.requi
 
 pub right-requires-clause-can : goal.right-requires-clause-can
 right-requires-clause-can g c κs within = record { room = omega (arith, c.requires.room); node = c.requires.sound.node; begin = c.requires.sound.begin; parts_are = c.requires.sound.parts }
+
+pub close-requires-clause-outer : goal.close-requires-clause-outer
+close-requires-clause-outer g c κs within = c.requires.sound.outer
+
+pub right-requires-clause-left : goal.right-requires-clause-left
+right-requires-clause-left g c κs within = c.requires.sound.left
+
+pub value-requires-clause-room : goal.value-requires-clause-room
+value-requires-clause-room g c κs within = omega (arith, c.requires.room)
+
+pub value-requires-in-Public-clause-room : goal.value-requires-in-Public-clause-room
+value-requires-in-Public-clause-room g c κs within = omega (arith, c.requires.room)
+
+pub value-requires-in-Private-clause-room : goal.value-requires-in-Private-clause-room
+value-requires-in-Private-clause-room g c κs within = omega (arith, c.requires.room)
+
+pub value-requires-in-Named-clause-room : goal.value-requires-in-Named-clause-room
+value-requires-in-Named-clause-room g c κs within = omega (arith, c.requires.room)
+
+pub public-node-requires-after_bounds : goal.public-node-requires-after_bounds
+public-node-requires-after_bounds g c κs within =
+    let b = c.args.self.now.builder in
+    subst (λ w. IsWordWithin b.publics b.privates (code_word c.args.numbers.now w)) c.in-Public.is c.requires.input
+
+pub private-node-requires-after_bounds : goal.private-node-requires-after_bounds
+private-node-requires-after_bounds g c κs within =
+    let b = c.args.self.now.builder in
+    subst (λ w. IsWordWithin b.publics b.privates (code_word c.args.numbers.now w)) c.in-Private.is c.requires.input
+
+pub value-requires-in-Public-clause-operand : goal.value-requires-in-Public-clause-operand
+value-requires-in-Public-clause-operand g c κs within =
+    let b = c.args.self.now.builder in
+    let declared : c.in-Public.i < b.publics = subst (λ w. IsWordWithin b.publics b.privates (code_word c.args.numbers.now w)) c.in-Public.is c.requires.input in
+    ((omega (arith, c.public-node.ensures), omega (arith, c.public-node.ensures, declared)), c.requires.sound.node)
+
+pub value-requires-in-Private-clause-operand : goal.value-requires-in-Private-clause-operand
+value-requires-in-Private-clause-operand g c κs within =
+    let b = c.args.self.now.builder in
+    let declared : c.in-Private.i < b.privates = subst (λ w. IsWordWithin b.publics b.privates (code_word c.args.numbers.now w)) c.in-Private.is c.requires.input in
+    ((omega (arith, c.private-node.ensures), omega (arith, c.private-node.ensures, declared)), c.requires.sound.node)
