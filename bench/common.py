@@ -73,9 +73,9 @@ def parity(count):
     return source("goldilocks", bits, lets, names[0]), [sum(values) % 2], values
 
 
-def products_of_sums():
+def products_of_sums(field="goldilocks"):
     lets = [f"let t{i} = (x{i % 256} + 3 * x{i // 64} + {i}) * (x{(7 * i + 1) % 256} - x{(i + 5) % 256})" for i in range(SUMS)]
-    return source("goldilocks", [f"x{i}" for i in range(256)], lets, " + ".join(f"t{i}" for i in range(SUMS)))
+    return source(field, [f"x{i}" for i in range(256)], lets, " + ".join(f"t{i}" for i in range(SUMS)))
 
 
 def binary_tree(count):
