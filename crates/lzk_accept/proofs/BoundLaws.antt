@@ -1,16 +1,13 @@
 -- A layer's bound coefficient as a sum over its terms.
-use Rattle.std.specs.Prelude.{◌≡◌, ℕ, ◌<◌, ◌+◌, ◌/◌, ◌%◌, ◌^◌, List, [], ◌∷◌, length, drop, slice_index_or, slice_get, Some, None, map}
-use Rattle.std.proofs.Common.{zero, suc, refl, sym, ap, ◌∙◌, arith, subst}
-use Rattle.std.proofs.lemmas.List.{drop_more}
-use Rattle.std.proofs.lemmas.Option.{slice_get_within, same_Some}
+use Rattle.std.specs.Prelude.{◌≡◌, ℕ, ◌<◌, ◌≤◌, ◌+◌, ◌/◌, List, [], ◌∷◌, length, drop, slice_index_or, None, map}
+use Rattle.std.proofs.Common.{refl, sym, ap, ◌∙◌, arith}
+use Rattle.std.proofs.lemmas.List.{drop_more, drop_all}
 use Rattle.std.proofs.lemmas.List.FromFn.{get_or-map-range_with_len, length-map-range_with_len}
 use Rattle.lzk_field.specs.Ring.{Ops, RingLaws}
-use Rattle.lzk_field.specs.Sums.{sum_below, minus, entry}
-use Rattle.lzk_field.proofs.Solve.{var, unit as solo, null, ◌⊞◌, ◌⊟◌, ◌⊠◌, solve}
+use Rattle.lzk_field.specs.Sums.{sum_below, entry}
+use Rattle.lzk_field.proofs.RingBasics.{zero_plus}
+use Rattle.lzk_field.proofs.Solve.{var, ◌⊠◌, solve}
 use Rattle.lzk_mle.specs.Multilinear.{low_bit, agree, eq}
-use Rattle.lzk_mle.proofs.CornerLaws.{low_bit-even, low_bit-odd}
-use Rattle.lzk_circuit.specs.Bits.{bits}
-use Rattle.lzk_circuit.proofs.BitLaws.{bits_enough}
 use Rattle.lzk_circuit.specs.declared.layer.Term.{Term}
 use Rattle.lzk_circuit.specs.Sums.{sum_pairs, sum_list}
 use Rattle.lzk_circuit.specs.Valid.{Wiring, ArePlaced}
@@ -23,20 +20,12 @@ use Rattle.lzk_sumcheck.specs.declared.script.Script.{Script}
 use Rattle.lzk_sumcheck.specs.Rounds.{bound_coefficient}
 use Rattle.lzk_sumcheck.specs.Script.{layer_at, point_a, point_b}
 use Rattle.lzk_sumcheck.specs.Coefficients.{coefficients, terms_at, weights_at, bound_at}
-use Rattle.lzk_accept.specs.Bound.{counts, counts_at}
+use Rattle.lzk_accept.specs.Bound.{counts_at}
 
 module _ {A : Type 0} (o : Ops A) (r : RingLaws o) where
   open o use {plus, times}
 
   -- ---- one number's bits
-
-  pub agree_even : (i : ℕ) (x : A) → i % 2 ≡ 0 → minus o o.one x ≡ agree o (low_bit o i) x
-  agree_even i x h =
-      solve o r (x ∷ []) (solo ⊟ var 0) (null ⊠ var 0 ⊞ (solo ⊟ null) ⊠ (solo ⊟ var 0)) refl ∙ ap (λ b. agree o b x) (sym (low_bit-even o i h))
-
-  pub agree_odd : (i : ℕ) (x : A) → i % 2 ≡ 1 → x ≡ agree o (low_bit o i) x
-  agree_odd i x h =
-      solve o r (x ∷ []) (var 0) (solo ⊠ var 0 ⊞ (solo ⊟ solo) ⊠ (solo ⊟ var 0)) refl ∙ ap (λ b. agree o b x) (sym (low_bit-odd o i h))
 
   pub eq_step : (xs : List A) (j rest : ℕ) (x product all : A) → j < length xs → x ≡ slice_index_or xs j x
       → times product (eq o rest (drop j xs)) ≡ all → times (times product (agree o (low_bit o rest) x)) (eq o (rest / 2) (drop (j + 1) xs)) ≡ all
@@ -52,21 +41,13 @@ module _ {A : Type 0} (o : Ops A) (r : RingLaws o) where
       r.plus_assoc sum (f t) (sum_list o (drop (i + 1) ts) f)
       ∙ sym (ap (λ ys. plus sum (sum_list o ys f)) (drop_more ts i t within ∙ ap (λ y. y ∷ drop (i + 1) ts) (sym is))) ∙ h
 
-  -- ---- terms
+  pub sum_start : {X : Type 0} (f : X → A) (ts : List X) (z : A) → z ≡ o.zero → plus z (sum_list o ts f) ≡ sum_list o ts f
+  sum_start f ts z e = ap (λ x. plus x (sum_list o ts f)) e ∙ zero_plus o r (sum_list o ts f)
 
-  -- what the terms count, by what the two tables hold
-  pub counts_same : (weights firsts rb first second ra : List A) (alpha beta : A) (k n : ℕ) (ts : List (Term A))
-      → ((i : ℕ) (t : Term A) → slice_get ts i ≡ Some t → (t.g < k) × (t.a < n))
-      → ((g : ℕ) → g < k → entry o weights g ≡ plus (eq o g first) (times alpha (eq o g second))) → ((a : ℕ) → a < n → entry o firsts a ≡ eq o a ra)
-      → sum_list o ts (counts o beta weights firsts rb) ≡ sum_list o ts (counts_at o alpha beta first second ra rb)
-  counts_same weights firsts rb first second ra alpha beta k n [] h eu ev = refl
-  counts_same weights firsts rb first second ra alpha beta k n (t ∷ ts) h eu ev =
-      let one = h 0 t refl in
-      let rest = sum_list o ts (counts o beta weights firsts rb) in
-      let y = (weighed_term o beta t).coef in
-      ap (λ x. plus (times y (times (times x (entry o firsts t.a)) (eq o t.b rb))) rest) (eu t.g one.0)
-      ∙ ap (λ x. plus (times y (times (times (plus (eq o t.g first) (times alpha (eq o t.g second))) x) (eq o t.b rb))) rest) (ev t.a one.1)
-      ∙ ap (plus (counts_at o alpha beta first second ra rb t)) (counts_same weights firsts rb first second ra alpha beta k n ts (λ i u e. h (suc i) u e) eu ev)
+  pub sum_end : {X : Type 0} (f : X → A) (ts : List X) (i : ℕ) (sum all : A) → length ts ≤ i → plus sum (sum_list o (drop i ts) f) ≡ all → sum ≡ all
+  sum_end f ts i sum all over h = sym (ap (λ ys. plus sum (sum_list o ys f)) (drop_all i ts over) ∙ r.plus_zero sum) ∙ h
+
+  -- ---- terms
 
   -- the weights as a list
   listed : (k n : ℕ) (first second ra rb W : List A) (alpha beta : A) (ts : List (Term A)) → AreDistinct o k n ts
@@ -104,14 +85,3 @@ module _ {A : Type 0} (o : Ops A) (r : RingLaws o) where
       (λ g a b. ap (λ x. times x (h g a b)) (sym (weighed-coef o r beta terms g a b)) ∙ solve o r (q g a b ∷ entry o W g ∷ eq o a ra ∷ eq o b rb ∷ []) (var 0 ⊠ ((var 1 ⊠ var 2) ⊠ var 3)) (((var 1 ⊠ var 0) ⊠ var 2) ⊠ var 3) refl)
       ∙ ap (λ m. sum_below o m (λ g. sum_pairs o n (λ a b. times (times (times (entry o W g) (q g a b)) (eq o a ra)) (eq o b rb)))) (sym (length-map-range_with_len f 0 k))
       ∙ ap (λ xs. bound_coefficient o (layer_coefficient o xs beta) W n ra rb) et
-
--- the terms' numbers are below those that the points' bits number
-pub below_powers : {A : Type 0} (o : Ops A) (k n i j : ℕ) (ts : List (Term A)) → AreDistinct o k n ts → i ≡ bits k → j ≡ bits n
-    → (p : ℕ) (t : Term A) → slice_get ts p ≡ Some t → (t.g < 2 ^ i) × (t.a < 2 ^ j)
-below_powers o k n i j [] h ei ej p t e = absurd (omega (arith, slice_get_within [] p t e))
-below_powers o k n i j (u ∷ us) h ei ej zero t e =
-    let same : u ≡ t = same_Some u t e in (
-      subst (λ x. x.g < 2 ^ i) same (subst (λ m. u.g < 2 ^ m) (sym ei) (omega (arith, h.0, bits_enough k))),
-      subst (λ x. x.a < 2 ^ j) same (subst (λ m. u.a < 2 ^ m) (sym ej) (omega (arith, h.1, bits_enough n))),
-    )
-below_powers o k n i j (u ∷ us) h ei ej (suc p) t e = below_powers o k n i j us h.4 ei ej p t e

@@ -1,9 +1,11 @@
 -- The combined constraints, from what is summed of forms and copies.
-use Rattle.std.specs.Prelude.{◌≡◌, ℕ, ◌+◌, ◌-◌, ◌*◌, ◌/◌, ◌%◌, ◌<◌, ◌≤◌, ◌==◌, ◌&&◌, Bool, true, false, cond, nat_lt, nat_le, List, [], ◌∷◌, length}
+use Rattle.lzk_profile.specs.Profile.{most_row, most_rows}
+use Rattle.std.specs.Prelude.{◌≡◌, ℕ, ◌+◌, ◌-◌, ◌*◌, ◌/◌, ◌%◌, ◌<◌, ◌≤◌, ◌==◌, ◌&&◌, Bool, true, false, cond, nat_lt, nat_le, List, [], ◌∷◌, length, slice_set}
 use Rattle.std.proofs.Common.{refl, sym, ap, ◌∙◌, arith, inl, inr, subst}
-use Rattle.std.proofs.lemmas.Bool.{cases_eq, eq-eqb, ne_eqb, le-leb, lt-leb}
+use Rattle.std.proofs.lemmas.Bool.{cases_eq, eq-eqb, ne_eqb, le-leb, lt-leb, lt-ltb, le-ltb}
+use Rattle.std.proofs.lemmas.List.{get_or-set_same, get_or-set_other}
 use Rattle.std.proofs.lemmas.Grind.{div_ceil_times}
-use Rattle.std.proofs.lemmas.Nat.{div-add-mod'}
+use Rattle.std.proofs.lemmas.Nat.{div-add-mod', mul-le, mul-add-lt}
 use Rattle.std.proofs.Math.Nat.{div-eq_of_lt-le, mod-lt}
 use native.Mathlib.Decide.{dec_lt}
 use Rattle.lzk_field.specs.Ring.{Ops, RingLaws}
@@ -139,6 +141,27 @@ list_fits_behind p rows h =
           omega (arith, e, sum (p.nrow - 3 - rows), fits)
     ]
 
+-- ---- bounds on the numbers
+
+-- rows of a table have few entries together
+pub few_entries : (p : Params) (k : ℕ) → AreBounded p → k ≤ p.nrow → k * p.wr ≤ most_rows * most_row
+few_entries p k h l = mul-le k p.wr most_rows most_row (omega (arith, h.nrow, l)) h.wr
+
+-- a copy's row is behind the rows that are left out
+pub copy_behind : (nwrow x y row rows : ℕ) → row ≡ 3 + nwrow + x + y → rows ≤ nwrow → 3 + rows ≤ row
+copy_behind nwrow x y row rows is few = omega arith
+
+-- and its number is one of the table's
+pub copy_fits : (width nrow rows row position : ℕ) → 3 + rows ≤ row → row < nrow → position < width → (row - 3 - rows) * width + position < (nrow - 3 - rows) * width
+copy_fits width nrow rows row position low high p =
+    omega (arith, mul-add-lt (row - 3 - rows) width position (nrow - 3 - rows) (omega arith) p)
+
+-- The entries of a list's range from start up to j are added to those of another, multiplied, behind its first skip.
+pub record IsAddedTo {A : Type 0} (o : Ops A) (by : A) (list old : List A) (start skip j : ℕ) (sums : List A) : Type 0 where
+  pub done : (k : ℕ) → start ≤ skip + k → skip + k < j → entry o sums k ≡ o.plus (entry o old k) (o.times by (entry o list (skip + k)))
+  pub before : (k : ℕ) → skip + k < start → entry o sums k ≡ entry o old k
+  pub rest : (k : ℕ) → j ≤ skip + k → entry o sums k ≡ entry o old k
+
 module _ {A : Type 0} (o : Ops A) (r : RingLaws o) where
   open o use {plus, times, neg}
 
@@ -196,6 +219,41 @@ module _ {A : Type 0} (o : Ops A) (r : RingLaws o) where
       out : (b : Bool) (x : A) → cond b (times by x) o.zero ≡ times by (cond b x o.zero)
       out true x = refl
       out false x = solve o r (by ∷ []) null (var 0 ⊠ null) refl
+
+  -- one more entry of a range is added
+  pub added_more : (by : A) (list old sums : List A) (start skip j : ℕ) (x : A) → start ≤ j → skip ≤ start → j - skip < length sums
+      → x ≡ plus (entry o sums (j - skip)) (times by (entry o list j)) → IsAddedTo o by list old start skip j sums → IsAddedTo o by list old start skip (j + 1) (slice_set sums (j - skip) x)
+  added_more by list old sums start skip j x from low room ex h =
+      let i = j - skip in
+      let at : skip + i ≡ j = omega arith in
+      record {
+        done = λ k a b. elim (cases_eq k i) [
+          | inl e ↦
+              ap (entry o (slice_set sums i x)) e ∙ get_or-set_same sums i x o.zero room ∙ ex
+              ∙ ap (λ y. plus y (times by (entry o list j))) (h.rest i (omega (arith, at)))
+              ∙ ap (λ n. plus (entry o old i) (times by (entry o list n))) (sym at) ∙ ap (λ (n : ℕ). plus (entry o old n) (times by (entry o list (skip + n)))) (sym e)
+          | inr d ↦ get_or-set_other sums i k x o.zero d ∙ h.done k a (omega (arith, b, d, at))
+        ];
+        before = λ k a. get_or-set_other sums i k x o.zero (omega (arith, a, from, at)) ∙ h.before k a;
+        rest = λ k a. get_or-set_other sums i k x o.zero (omega (arith, a, at)) ∙ h.rest k (omega (arith, a));
+      }
+
+  -- and all of them
+  pub added_all : (by : A) (list old sums : List A) (start skip end : ℕ) → IsAddedTo o by list old start skip end sums
+      → (k : ℕ) → entry o sums k ≡ plus (entry o old k) (cond (nat_le start (skip + k) && nat_lt (skip + k) end) (times by (entry o list (skip + k))) o.zero)
+  added_all by list old sums start skip end h k =
+      let n = skip + k in
+      let was = entry o old k in
+      let x = times by (entry o list n) in
+      elim (dec_lt n start) [
+        | yes l ↦ h.before k l ∙ sym (ap (λ b. plus was (cond (b && nat_lt n end) x o.zero)) (lt-leb start n l) ∙ r.plus_zero was)
+        | no l ↦
+            let from = ap (λ b. plus was (cond (b && nat_lt n end) x o.zero)) (le-leb start n (omega arith)) in
+            elim (dec_lt n end) [
+              | yes m ↦ h.done k (omega arith) m ∙ sym (from ∙ ap (λ b. plus was (cond b x o.zero)) (lt-ltb n end m))
+              | no m ↦ h.rest k (omega arith) ∙ sym (from ∙ ap (λ b. plus was (cond b x o.zero)) (le-ltb n end (omega arith)) ∙ r.plus_zero was)
+            ]
+      ]
 
   -- the negative, where a test holds
   negated : (b : Bool) (v : A) → cond b (neg v) o.zero ≡ neg (cond b v o.zero)

@@ -1,8 +1,8 @@
 -- How numbers agree with a point, by their upper and their lower bits.
-use Rattle.std.specs.Prelude.{◌≡◌, ℕ, ◌+◌, ◌-◌, ◌*◌, ◌/◌, ◌%◌, ◌<◌, ◌≤◌, ◌^◌, ◌==◌, cond, nat_lt, List, [], ◌∷◌, ◌++◌, length}
-use Rattle.std.proofs.Common.{suc, refl, sym, ap, ◌∙◌, arith}
-use Rattle.std.proofs.lemmas.Bool.{lt-ltb, le-ltb}
-use Rattle.std.proofs.lemmas.List.{get_or_past, get_or_append_left, get_or-append-add}
+use Rattle.std.specs.Prelude.{◌≡◌, ℕ, ◌+◌, ◌-◌, ◌*◌, ◌/◌, ◌%◌, ◌<◌, ◌≤◌, ◌^◌, ◌==◌, cond, nat_lt, List, [], ◌∷◌, ◌++◌, length, slice_set}
+use Rattle.std.proofs.Common.{suc, refl, sym, ap, ◌∙◌, inl, inr, arith}
+use Rattle.std.proofs.lemmas.Bool.{lt-ltb, le-ltb, cases_eq}
+use Rattle.std.proofs.lemmas.List.{get_or_past, get_or_append_left, get_or-append-add, get_or-set_same, get_or-set_other, length-set}
 use Rattle.std.proofs.lemmas.Nat.{div-add-mod'}
 use Rattle.std.proofs.Math.Nat.{pow-succ', mod-lt, lt_of_mul-lt-mul_right}
 use Rattle.std.proofs.Math.Pow.{pow_mono}
@@ -46,6 +46,27 @@ row_end w rows i s here inside =
     let all : rows ≡ i + 1 + (rows - i - 1) = omega arith in
     let up : (i + 1 + (rows - i - 1)) * w ≡ i * w + w + (rows - i - 1) * w = omega arith in
     omega (arith, ap (λ n. n * w) all, up)
+
+-- two lists of n entries, one after the other, of which the first i of each are set
+pub record AreSetTo {A : Type 0} (o : Ops A) (f g : ℕ → A) (n i : ℕ) (list : List A) : Type 0 where
+  pub here : (k : ℕ) → k < i → entry o list k ≡ f k
+  pub next : (k : ℕ) → k < i → entry o list (n + k) ≡ g k
+
+pub two_set : {A : Type 0} (o : Ops A) (f g : ℕ → A) (n : ℕ) (list : List A) (i : ℕ) (x y : A) → i < n → n + i < length list → AreSetTo o f g n i list → x ≡ f i → y ≡ g i
+    → AreSetTo o f g n (i + 1) (slice_set (slice_set list i x) (n + i) y)
+two_set o f g n list i x y inside room h ex ey =
+    let mid = slice_set list i x in
+    let sized : length mid ≡ length list = length-set list i x in
+    record {
+      here = λ k l. get_or-set_other mid (n + i) k y o.zero (omega (arith, l, inside)) ∙ elim (cases_eq k i) [
+        | inl e ↦ ap (entry o mid) e ∙ get_or-set_same list i x o.zero (omega (arith, room)) ∙ ex ∙ ap f (sym e)
+        | inr d ↦ get_or-set_other list i k x o.zero d ∙ h.here k (omega (arith, l, d))
+      ];
+      next = λ k l. elim (cases_eq k i) [
+        | inl e ↦ ap (λ (m : ℕ). entry o (slice_set mid (n + i) y) (n + m)) e ∙ get_or-set_same mid (n + i) y o.zero (omega (arith, sized, room)) ∙ ey ∙ ap g (sym e)
+        | inr d ↦ get_or-set_other mid (n + i) (n + k) y o.zero (omega (arith, d)) ∙ get_or-set_other list i (n + k) x o.zero (omega (arith, inside)) ∙ h.next k (omega (arith, l, d))
+      ];
+    }
 
 module _ {A : Type 0} (o : Ops A) (r : RingLaws o) where
   open o use {plus, times, neg}

@@ -1,7 +1,6 @@
 -- The claim after rounds as a form of the claim before and of the rounds' pads.
-use Rattle.std.specs.Prelude.{◌≡◌, ◌≢◌, ℕ, ◌<◌, ◌+◌, ◌*◌, ◌/◌, ◌%◌, cond, List, [], ◌∷◌}
+use Rattle.std.specs.Prelude.{◌≡◌, ℕ, ◌<◌, ◌+◌, ◌*◌, List, [], ◌∷◌}
 use Rattle.std.proofs.Common.{suc, refl, sym, ap, ◌∙◌, arith, subst}
-use Rattle.std.proofs.lemmas.Bool.{eq-eqb, ne_eqb}
 use Rattle.lzk_field.specs.Ring.{Ops, RingLaws}
 use Rattle.lzk_field.specs.Sums.{sum_below, minus, entry}
 use Rattle.lzk_field.proofs.Solve.{var, null, ◌⊞◌, ◌⊟◌, ◌⊠◌, solve, unit}
@@ -95,18 +94,6 @@ module _ {A : Type 0} (o : Ops A) (r : RingLaws o) (point : ℕ → A) where
 module _ {A : Type 0} (o : Ops A) (r : RingLaws o) (point : ℕ → A) where
   open o use {plus, times}
 
-  challenge_even : (layer : LayerScript A) (i : ℕ) → challenge_of o layer (2 * i) ≡ entry o layer.ra i
-  challenge_even layer i =
-      let even : 2 * i % 2 ≡ 0 = omega arith in
-      let half : 2 * i / 2 ≡ i = omega arith in
-      ap (λ b. cond b (entry o layer.ra (2 * i / 2)) (entry o layer.rb (2 * i / 2))) (eq-eqb (2 * i % 2) 0 even) ∙ ap (entry o layer.ra) half
-
-  challenge_odd : (layer : LayerScript A) (i : ℕ) → challenge_of o layer (suc (2 * i)) ≡ entry o layer.rb i
-  challenge_odd layer i =
-      let odd : suc (2 * i) % 2 ≢ 0 = omega arith in
-      let half : suc (2 * i) / 2 ≡ i = omega arith in
-      ap (λ b. cond b (entry o layer.ra (suc (2 * i) / 2)) (entry o layer.rb (suc (2 * i) / 2))) (ne_eqb (suc (2 * i) % 2) 0 odd) ∙ ap (entry o layer.rb) half
-
   -- the step of one round, by its shares and two sent elements
   pub record IsStep (s : Shares A) (p0 p2 : A) (old : List A) (k : ℕ) (before : Claim A) (new : List A) (after : Claim A) : Type 0 where
     pub first : entry o new k ≡ times before.weight (minus o s.first s.second)
@@ -119,7 +106,7 @@ module _ {A : Type 0} (o : Ops A) (r : RingLaws o) (point : ℕ → A) where
     abbrev pub Back : List A → ℕ → ℕ → Claim A → Type 0
     Back own m n claim = IsBack o r point (challenge_of o layer) (λ k. entry o messages (start + k)) own at total m n claim.constant claim.weight
 
-    back_step : (old new : List A) (m n k i : ℕ) (t : A) (s : Shares A) (before after : Claim A) → k ≡ at + 2 * m → i ≡ start + 2 * m → challenge_of o layer m ≡ t → AreShares o point t s
+    pub back_step : (old new : List A) (m n k i : ℕ) (t : A) (s : Shares A) (before after : Claim A) → k ≡ at + 2 * m → i ≡ start + 2 * m → challenge_of o layer m ≡ t → AreShares o point t s
         → Back old (suc m) n before → IsStep s (entry o messages i) (entry o messages (i + 1)) old k before new after → Back new m (suc (suc n)) after
     back_step old new m n k i t s before after ek ei et shares h step =
         let after_place : i + 1 ≡ start + (2 * m + 1) = omega arith in
@@ -131,27 +118,12 @@ module _ {A : Type 0} (o : Ops A) (r : RingLaws o) (point : ℕ → A) where
         ∙ ap (λ x. plus before.constant (times before.weight (plus (times (minus o s.first s.second) (entry o messages (start + 2 * m))) (times s.third (entry o messages x))))) after_place)
         step.weight
 
-    -- both rounds of a bit
-    pub back_bit : (old mid new : List A) (i j n n' : ℕ) (sa sb : Shares A) (before between after : Claim A) → i + 1 ≡ j → n' ≡ n + 4
-        → AreShares o point (entry o layer.rb i) sb → AreShares o point (entry o layer.ra i) sa → Back old (2 * j) n before
-        → IsStep sb (entry o messages (start + 4 * i + 2)) (entry o messages (start + 4 * i + 2 + 1)) old (at + 4 * i + 2) before mid between
-        → IsStep sa (entry o messages (start + 4 * i)) (entry o messages (start + 4 * i + 1)) mid (at + 4 * i) between new after
-        → Back new (2 * i) n' after
-    back_bit old mid new i j n n' sa sb before between after ej en hb ha h first second =
-        let e : 2 * j ≡ suc (suc (2 * i)) = omega arith in
-        let e' : suc (suc (suc (suc n))) ≡ n' = omega arith in
-        subst (λ k. Back new (2 * i) k after) e'
-        (back_step mid new (2 * i) (suc (suc n)) (at + 4 * i) (start + 4 * i) (entry o layer.ra i) sa between after (omega arith) (omega arith) (challenge_even layer i) ha
-        (back_step old mid (suc (2 * i)) n (at + 4 * i + 2) (start + 4 * i + 2) (entry o layer.rb i) sb before between (omega arith) (omega arith) (challenge_odd layer i) hb
-        (subst (λ k. Back old k n before) e h) first) second)
-
     -- all rounds
-    pub back_whole : (own : List A) (j n : ℕ) (claim : Claim A) → j ≡ 0 → n ≡ 2 * total → Back own (2 * j) n claim → (pad : ℕ → A) (x : A)
+    pub back_whole : (own : List A) (m n : ℕ) (claim : Claim A) → m ≡ 0 → n ≡ 2 * total → Back own m n claim → (pad : ℕ → A) (x : A)
         → through_rounds o point (challenge_of o layer) (λ k. entry o messages (start + k)) pad x total
         ≡ plus (plus claim.constant (times claim.weight x)) (sum_below o (2 * total) (λ k. times (entry o own (at + k)) (pad k)))
-    back_whole own j n claim ej en h pad x =
-        let e : 2 * j ≡ 0 = omega arith in
-        let h0 : Back own 0 n claim = subst (λ k. Back own k n claim) e h in
+    back_whole own m n claim em en h pad x =
+        let h0 : Back own 0 n claim = subst (λ k. Back own k n claim) em h in
         h0.form pad x
         ∙ ap (plus (plus claim.constant (times claim.weight x))) (sum-ext o r n (λ k. times (entry o own (at + (2 * 0 + k))) (pad (2 * 0 + k))) (λ k. times (entry o own (at + k)) (pad k)) (λ k l. let z : 2 * 0 + k ≡ k = omega arith in ap (λ i. times (entry o own (at + i)) (pad i)) z))
         ∙ ap (λ k. plus (plus claim.constant (times claim.weight x)) (sum_below o k (λ i. times (entry o own (at + i)) (pad i)))) en

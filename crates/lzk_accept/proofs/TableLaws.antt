@@ -48,6 +48,22 @@ module _ {A : Type 0} (o : Ops A) where
     pub rest : (k : ℕ) → i ≤ k → k < size → entry o table (2 * k) ≡ entry o old (2 * k)
     pub ones : (k : ℕ) → k < size → entry o table (2 * k + 1) ≡ entry o old (2 * k + 1)
 
+  pub lessened_more : (old table : List A) (size i : ℕ) (x : A) → IsLessenedTo old size i table → i < size → 2 * size ≤ length old
+      → x ≡ minus o (entry o table (2 * i)) (entry o table (2 * i + 1)) → IsLessenedTo old size (i + 1) (slice_set table (2 * i) x)
+  lessened_more old table size i x h inside room ex =
+      record {
+        length_is = length-set table (2 * i) x ∙ h.length_is;
+        zeros = λ k l. elim (cases_eq k i) [
+          | inl e ↦
+              ap (λ (n : ℕ). entry o (slice_set table (2 * i) x) (2 * n)) e ∙ get_or-set_same table (2 * i) x o.zero (omega (arith, h.length_is)) ∙ ex
+              ∙ ap (λ y. minus o y (entry o table (2 * i + 1))) (h.rest i (omega arith) inside) ∙ ap (minus o (entry o old (2 * i))) (h.ones i inside)
+              ∙ ap (λ (n : ℕ). minus o (entry o old (2 * n)) (entry o old (2 * n + 1))) (sym e)
+          | inr d ↦ get_or-set_other table (2 * i) (2 * k) x o.zero (omega (arith, d)) ∙ h.zeros k (omega (arith, l, d))
+        ];
+        rest = λ k l q. get_or-set_other table (2 * i) (2 * k) x o.zero (omega (arith, l)) ∙ h.rest k (omega (arith, l)) q;
+        ones = λ k q. get_or-set_other table (2 * i) (2 * k + 1) x o.zero (omega arith) ∙ h.ones k q;
+      }
+
 module _ {A : Type 0} (o : Ops A) (r : RingLaws o) where
   -- what is left of a whole without x times it
   pub lessened : (x whole : A) → minus o whole (o.times x whole) ≡ o.times (minus o o.one x) whole

@@ -31,12 +31,11 @@ impl<F: Field> Challenges<F> {
         ensures zeros { IfOk result (λ challenges. challenges ≡ zero_challenges F.ops params.now) }
         ensures shape { IfOk result (λ challenges. HasShape params.now challenges) }
     {
-        Ok(Challenges {
-            u: Elements::zeros(alloc, params.nrow as usize - 3)?,
-            lambda: Elements::zeros(alloc, params.layers as usize + 1)?,
-            mu: Elements::zeros(alloc, 3 * params.layers as usize)?,
-            v: Elements::zeros(alloc, params.ntriple as usize)?,
-        })
+        let u = Elements::zeros(alloc, params.nrow as usize - 3)?;
+        let lambda = Elements::zeros(alloc, params.layers as usize + 1)?;
+        let mu = Elements::zeros(alloc, 3 * params.layers as usize)?;
+        let v = Elements::zeros(alloc, params.ntriple as usize)?;
+        Ok(Challenges { u, lambda, mu, v })
     }
 }
 

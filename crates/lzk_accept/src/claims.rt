@@ -1,25 +1,20 @@
 //! The claims of a layer, for a list of pads.
 
+ghost use Rattle.lzk_profile.specs.Profile.{most_bits};
 ghost use Rattle.std.specs.Prelude.{◌≡◌, ◌+◌, ◌<◌, ◌*◌, ◌≤◌, length};
 ghost use Rattle.lzk_circuit.specs.Bits.{bits};
 ghost use Rattle.lzk_layout.specs.Places.{depth, width_at, bits_under, round_count, places_of, AreWithin};
 ghost use Rattle.lzk_sumcheck.specs.Script.{layer_at, point_a, point_b, HasBits};
 ghost use Rattle.lzk_accept.specs.Residuals.{next_claim, padded, claim_a, claim_b, claim_after, product_at};
+ghost use Rattle.lzk_accept.specs.Walks.{challenge_of};
 
 use crate::exchange::{Scripted, Witnessed};
 use crate::points::ThreePoints;
+use crate::rounds::round_challenge;
 use lzk_circuit::Circuit;
 use lzk_field::Field;
 use lzk_layout::LayerPlaces;
-use lzk_sumcheck::{LayerScript, Script, entry_at};
-
-// The layer's draws, with nothing said of their lengths.
-fn nth_layer<F: Field>(script: &Script<F>, l: u32) -> &LayerScript<F>
-    requires { l < length script.now.layers }
-    ensures { result.now ≡ layer_at F.ops script.now l }
-{
-    &script.layers.as_slice()[l as usize]
-}
+use lzk_sumcheck::{LayerScript, entry_at};
 
 /// What layer `l` draws.
 pub(crate) fn layer_of<'a, F: Field>(scripted: &Scripted<'a, F>, l: u32) -> &'a LayerScript<F>
@@ -27,12 +22,11 @@ pub(crate) fn layer_of<'a, F: Field>(scripted: &Scripted<'a, F>, l: u32) -> &'a 
     ensures layer { result.now ≡ layer_at F.ops scripted.now.script.now l }
     ensures bits { HasBits (bits_under scripted.now.circuit.now l) result.now }
 {
-    scripted.circuit.valid_laws();
-    nth_layer(scripted.script, l)
+    let layers = scripted.script.layers.as_slice();
+    &layers[l as usize]
 }
 
 /// The two points at which claims on layer `l` stand, the input layer being the one after the last.
-#[tactic(auto, using(crate::proofs::ShapeLaws::point_a_length, crate::proofs::ShapeLaws::point_b_length))]
 pub(crate) fn points_on<'a, F: Field>(scripted: &Scripted<'a, F>, l: u32) -> (&'a [F], &'a [F])
     requires layer { l ≤ depth scripted.now.circuit.now }
     ensures first { result.0.now ≡ point_a F.ops scripted.now.script.now l }
@@ -93,24 +87,28 @@ pub(crate) fn claims_on<F: Field>(witnessed: &Witnessed<'_, F>, l: u32) -> (F, F
     (first, second)
 }
 
-// The claim after a round whose elements begin at place i, and its pads at place j.
+// The claim after round n of a layer that has these places.
 fn after_round<F: Field>(
     points: &ThreePoints<F>,
-    messages: &[F],
-    w: &[F],
-    i: usize,
-    j: usize,
+    witnessed: &Witnessed<'_, F>,
+    layer: &LayerScript<F>,
+    places: LayerPlaces,
+    n: usize,
     claim: F,
-    challenge: F,
 ) -> F
-    requires sent { i + 1 < length messages.now }
-    requires pads { j + 1 < length w.now }
-    ensures { let p = padded F.ops messages.now w.now in
-        result ≡ next_claim F.ops F.coding.element claim (p i j) (p (i + 1) (j + 1)) challenge }
+    requires few { n < 2 * most_bits }
+    ensures { let p = padded F.ops witnessed.now.exchange.messages.now witnessed.now.w.now in
+        let i = places.messages + 2 * n in
+        let j = places.pads + 2 * n in
+        result
+        ≡ next_claim F.ops F.coding.element claim (p i j) (p (i + 1) (j + 1)) (challenge_of F.ops layer.now n) }
 {
+    let (messages, w) = (witnessed.exchange.messages, witnessed.w);
+    let i = places.messages as usize + 2 * n;
+    let j = places.pads as usize + 2 * n;
     let p0 = padded(messages, w, i, j);
     let p2 = padded(messages, w, i + 1, j + 1);
-    points.next_claim(claim, p0, p2, challenge)
+    points.next_claim(claim, p0, p2, round_challenge(layer, n))
 }
 
 /// The claim of layer `l` after its rounds.
@@ -121,27 +119,14 @@ pub(crate) fn after_rounds<F: Field>(witnessed: &Witnessed<'_, F>, l: u32) -> F
         witnessed.now.exchange.scripted.script.now witnessed.now.exchange.messages.now witnessed.now.w.now l
         (round_count witnessed.now.exchange.scripted.circuit.now l) }
 {
-    let exchange = &witnessed.exchange;
-    let layer = layer_of(&exchange.scripted, l);
-    let ra = layer.ra.as_slice();
-    let rb = layer.rb.as_slice();
-    let places = places_at(exchange.scripted.circuit, l);
+    let scripted = &witnessed.exchange.scripted;
+    let layer = layer_of(scripted, l);
+    let places = places_at(scripted.circuit, l);
     let points = ThreePoints::new();
     let (first, second) = claims_on(witnessed, l);
     let mut claim = first.add(layer.alpha.mul(second));
-    for n in 0..places.bits as usize {
-        let i = places.messages as usize + 4 * n;
-        let j = places.pads as usize + 4 * n;
-        claim = after_round(&points, exchange.messages, witnessed.w, i, j, claim, ra[n]);
-        claim = after_round(
-            &points,
-            exchange.messages,
-            witnessed.w,
-            i + 2,
-            j + 2,
-            claim,
-            rb[n],
-        );
+    for n in 0..2 * places.bits as usize {
+        claim = after_round(&points, witnessed, layer, places, n, claim);
     }
     claim
 }
@@ -158,7 +143,10 @@ pub(crate) fn product_of<F: Field>(witnessed: &Witnessed<'_, F>, l: u32) -> F
     let (messages, w) = (witnessed.exchange.messages, witnessed.w);
     let sent = places.factors_sent as usize;
     let pads = places.factors as usize;
-    let (s0, s1) = (messages[sent], messages[sent + 1]);
-    let (d0, d1, e) = (w[pads], w[pads + 1], w[pads + 2]);
+    let s0 = entry_at(messages, sent);
+    let s1 = entry_at(messages, sent + 1);
+    let d0 = entry_at(w, pads);
+    let d1 = entry_at(w, pads + 1);
+    let e = entry_at(w, pads + 2);
     s0.mul(s1).add(s0.mul(d1)).add(s1.mul(d0)).add(e)
 }

@@ -51,11 +51,14 @@ impl<F: Field> Factored<F> {
         let width = params.wr as usize;
         let rows = circuit.privates() / params.wr;
         let others = (params.nrow - 3 - rows) as usize;
+        let row_factors = Elements::zeros(alloc, 4 * rows as usize)?;
+        let place_factors = Elements::zeros(alloc, 4 * width)?;
+        let table = Elements::zeros(alloc, others * width)?;
         Ok(Factored {
             rows,
-            row_factors: Elements::zeros(alloc, 4 * rows as usize)?,
-            place_factors: Elements::zeros(alloc, 4 * width)?,
-            table: Elements::zeros(alloc, others * width)?,
+            row_factors,
+            place_factors,
+            table,
         })
     }
 }
@@ -76,6 +79,17 @@ fn set_row_factors<F: Field>(table: &[F], by: F, high: usize, rows: usize, facto
     }
 }
 
+// What stands at number k of as many zeros as a table has entries, and of the table behind them.
+fn behind_zeros<F: Field>(table: &[F], k: usize) -> F
+    ensures { let o = F.ops in let n = length table.now in
+        result ≡ cond (nat_lt k n) o.zero (entry o table.now (k - n)) }
+{
+    if k < table.len() {
+        return F::zero();
+    }
+    entry_at(table, k - table.len())
+}
+
 // Sets two factors for each position: the table's entries from number `low` on, with zeros past its end, and zeros,
 // with the table's first entries behind them.
 fn set_place_factors<F: Field>(table: &[F], low: usize, factors: &mut [F])
@@ -92,11 +106,7 @@ fn set_place_factors<F: Field>(table: &[F], low: usize, factors: &mut [F])
     for s in 0..width {
         let k = low + s;
         factors[s] = entry_at(table, k);
-        factors[width + s] = if k < width {
-            F::zero()
-        } else {
-            table[k - width]
-        };
+        factors[width + s] = behind_zeros(table, k);
     }
 }
 

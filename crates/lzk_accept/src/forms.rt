@@ -109,11 +109,11 @@ fn empty_forms<F: Field>(alloc: Global, circuit: &Circuit<F>) -> Result<Vec<Form
     let mut places = LayerPlaces::first(circuit);
     let mut above = places.factors;
     for l in 0..depth {
-        forms.push(empty(places.pads, places.factors + 3, above))?;
+        forms.push_reserved(empty(places.pads, places.factors + 3, above));
         above = places.factors;
         places = places.next(circuit, l);
     }
-    forms.push(empty(0, circuit.privates(), above))?;
+    forms.push_reserved(empty(0, circuit.privates(), above));
     Ok(forms)
 }
 
@@ -123,13 +123,19 @@ impl<F: Field> Forms<F> {
         ensures made { IfOk result (λ forms. AreFormsOf F.ops circuit.now forms) }
     {
         let size = power_of(most_bits(circuit));
+        let forms = empty_forms(alloc, circuit)?;
+        let own = zeros(alloc, Params::of(circuit).nw as usize)?;
+        let first = zeros(alloc, size)?;
+        let second = zeros(alloc, size)?;
+        let weights = zeros(alloc, size)?;
+        let bounds = zeros(alloc, circuit.depth() as usize)?;
         Ok(Forms {
-            forms: empty_forms(alloc, circuit)?,
-            own: zeros(alloc, Params::of(circuit).nw as usize)?,
-            first: zeros(alloc, size)?,
-            second: zeros(alloc, size)?,
-            weights: zeros(alloc, size)?,
-            bounds: zeros(alloc, circuit.depth() as usize)?,
+            forms,
+            own,
+            first,
+            second,
+            weights,
+            bounds,
         })
     }
 

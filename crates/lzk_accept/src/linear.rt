@@ -23,12 +23,21 @@ use lzk_circuit::Circuit;
 use lzk_field::Field;
 use lzk_layout::LayerPlaces;
 use lzk_sumcheck::{Script, entry_at};
+use std::alloc::AllocError;
 
 /// The two factors that a layer sends, or zeros where there is no layer.
-#[derive(Clone, Copy)]
+#[derive(Copy)]
 pub(crate) struct Factors<F> {
     pub(crate) first: F,
     pub(crate) second: F,
+}
+
+impl<F: Copy> Clone for Factors<F> {
+    ghost is_clone = { λ x copy. copy ≡ x };
+
+    fn clone(&self) -> Result<Factors<F>, AllocError> {
+        Ok(*self)
+    }
 }
 
 // The two factors that the layer whose turn it is sends.

@@ -8,6 +8,7 @@ ghost use Rattle.lzk_accept.specs.Residuals.{next_claim};
 ghost use Rattle.lzk_accept.specs.Points.{AreInverses, AreShares};
 
 use lzk_field::Field;
+use std::alloc::AllocError;
 
 fn inverse_of<F: Field>(x: F) -> F
     requires { x ≢ F.ops.zero }
@@ -30,11 +31,19 @@ pub(crate) struct ThreePoints<F: Field> {
 }
 
 /// What the values at the three points count for in the polynomial's value at another: Lagrange's polynomials there.
-#[derive(Clone, Copy)]
+#[derive(Copy)]
 pub(crate) struct Shares<F> {
     pub(crate) first: F,
     pub(crate) second: F,
     pub(crate) third: F,
+}
+
+impl<F: Copy> Clone for Shares<F> {
+    ghost is_clone = { λ x copy. copy ≡ x };
+
+    fn clone(&self) -> Result<Shares<F>, AllocError> {
+        Ok(*self)
+    }
 }
 
 // Inverse of the product of the differences of x to u and v.

@@ -53,7 +53,7 @@ pub fn residual<'a, F: Field>(
     let witnessed = Witnessed { exchange, w };
     if i < circuit.depth() {
         let claim = after_rounds(&witnessed, i);
-        let bound = bound_of(&witnessed.exchange.scripted, i, room);
+        let bound = bound_of(&witnessed.exchange.scripted, i);
         claim.sub(bound.mul(product_of(&witnessed, i)))
     } else {
         let inputs = inputs_of(&witnessed, room);

@@ -2,20 +2,28 @@
 
 ghost use Rattle.std.specs.Prelude.{◌≡◌, ℕ, ◌+◌, ◌*◌, ◌<◌, ◌≤◌, length};
 ghost use Rattle.lzk_field.specs.Sums.{entry, minus, sum_below};
-ghost use Rattle.lzk_sumcheck.specs.Script.{HasBits};
 ghost use Rattle.lzk_accept.specs.Walks.{through_rounds, challenge_of};
 
 use crate::points::{Shares, ThreePoints};
 use lzk_field::Field;
-use lzk_sumcheck::LayerScript;
+use lzk_sumcheck::{LayerScript, entry_at};
+use std::alloc::AllocError;
 
 /// The claim after rounds, but for what their pads add.
-#[derive(Clone, Copy)]
+#[derive(Copy)]
 pub(crate) struct Claim<F> {
     /// What it is without the claim before.
     pub(crate) constant: F,
     /// What the claim before counts.
     pub(crate) weight: F,
+}
+
+impl<F: Copy> Clone for Claim<F> {
+    ghost is_clone = { λ x copy. copy ≡ x };
+
+    fn clone(&self) -> Result<Claim<F>, AllocError> {
+        Ok(*self)
+    }
 }
 
 // One more round before those of a claim: its two sent elements, and its coefficients' place.
@@ -48,6 +56,17 @@ fn round_back<F: Field>(
     }
 }
 
+/// The challenge of round n of a layer: the rounds are for bit 0 of a, bit 0 of b, bit 1 of a and so on.
+pub(crate) fn round_challenge<F: Field>(layer: &LayerScript<F>, n: usize) -> F
+    ensures { result ≡ challenge_of F.ops layer.now n }
+{
+    if n % 2 == 0 {
+        entry_at(layer.ra.as_slice(), n / 2)
+    } else {
+        entry_at(layer.rb.as_slice(), n / 2)
+    }
+}
+
 /// What a layer draws for its rounds, two for each of so many bits, and what it sends in them, from place `sent` on.
 #[derive(Drop)]
 pub(crate) struct LayerRounds<'a, F: Field> {
@@ -55,7 +74,6 @@ pub(crate) struct LayerRounds<'a, F: Field> {
     pub(crate) bits: usize,
     pub(crate) messages: &'a [F],
     pub(crate) sent: usize,
-    ghost drawn: { HasBits bits layer.now },
     ghost within: { sent + 4 * bits ≤ length messages.now },
 }
 
@@ -80,19 +98,17 @@ pub(crate) fn claim_form<F: Field>(
 {
     let (layer, bits) = (rounds.layer, rounds.bits);
     let (messages, sent) = (rounds.messages, rounds.sent);
-    let ra = layer.ra.as_slice();
-    let rb = layer.rb.as_slice();
     let mut claim = Claim {
         constant: F::zero(),
         weight: F::one(),
     };
-    for j in (0..bits).rev() {
-        let i = sent + 4 * j;
-        let k = at + 4 * j;
-        let b = points.shares(rb[j]);
-        let mid = round_back(b, messages[i + 2], messages[i + 3], own, k + 2, claim);
-        let a = points.shares(ra[j]);
-        claim = round_back(a, messages[i], messages[i + 1], own, k, mid);
+    for m in (0..2 * bits).rev() {
+        let i = sent + 2 * m;
+        let p0 = entry_at(messages, i);
+        let p2 = entry_at(messages, i + 1);
+        let k = at + 2 * m;
+        let shares = points.shares(round_challenge(layer, m));
+        claim = round_back(shares, p0, p2, own, k, claim);
     }
     claim
 }

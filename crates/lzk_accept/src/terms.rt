@@ -9,15 +9,24 @@ ghost use Rattle.lzk_accept.specs.Walks.{counted, counted_so_far};
 use lzk_circuit::{Term, weight_of};
 use lzk_field::Field;
 use lzk_sumcheck::entry_at;
+use std::alloc::AllocError;
 
 // A sum over terms, of which those of the last wire are not weighted yet. The terms whose first wire is wire 0 are
 // summed without its entry.
-#[derive(Clone, Copy)]
+#[derive(Copy)]
 struct Walk<F> {
     total: F,
     wire: u32,
     linear: F,
     inner: F,
+}
+
+impl<F: Copy> Clone for Walk<F> {
+    ghost is_clone = { λ x copy. copy ≡ x };
+
+    fn clone(&self) -> Result<Walk<F>, AllocError> {
+        Ok(*self)
+    }
 }
 
 // A product with a coefficient, which is often one.

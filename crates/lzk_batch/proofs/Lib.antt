@@ -5,6 +5,7 @@ pub mod WordPlaces
 pub mod Listing
 pub mod ListTexts
 pub mod Working
+pub mod JobLaws
 pub mod Sharing
 pub mod Ordering
 pub mod Placing

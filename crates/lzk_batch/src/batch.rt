@@ -160,10 +160,16 @@ fn id_of_circuit(alloc: Global, circuit: &AnyCircuit) -> Result<[u8; 32], AllocE
 fn ids_of(alloc: Global, circuits: &[AnyCircuit]) -> Result<Vec<[u8; 32]>, AllocError>
     ensures { IfOk result (λ ids. ids.items ≡ map id_of_any circuits.now) }
 {
-    let mut ids = Vec::with_capacity(alloc, circuits.len())?;
+    let Ok(mut ids) = Vec::with_capacity(alloc, circuits.len()) else {
+        return Err(AllocError);
+    };
     for i in 0..circuits.len() {
-        let id = id_of_circuit(alloc, &circuits[i])?;
-        ids.push(id)?;
+        let Ok(id) = id_of_circuit(alloc, &circuits[i]) else {
+            return Err(AllocError);
+        };
+        let Ok(()) = ids.push(id) else {
+            return Err(AllocError);
+        };
     }
     Ok(ids)
 }
@@ -231,7 +237,9 @@ pub fn verify_all<R: Threads + Sync, G: Gate>(
     requires few { workers ≤ most_workers }
     ensures { IfOk result (λ verdicts. HaveVerdicts circuits.now jobs.now verdicts.items) }
 {
-    let ids = ids_of(alloc, circuits)?;
+    let Ok(ids) = ids_of(alloc, circuits) else {
+        return Err(AllocError);
+    };
     verify_all_with_ids(rt, alloc, circuits, &ids, jobs, workers, gate)
 }
 

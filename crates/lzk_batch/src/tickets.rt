@@ -104,12 +104,20 @@ impl Tickets {
         ensures all { IfOk result (λ r. AreAll r.0 r.1.items) }
         ensures fresh { IfOk result (λ r. All HasDrawnNothing r.1.items) }
     {
-        let (tickets, mut first) = Tickets::open(alloc, jobs)?;
-        let mut passes = Vec::with_capacity(alloc, workers)?;
+        let Ok((tickets, mut first)) = Tickets::open(alloc, jobs) else {
+            return Err(AllocError);
+        };
+        let Ok(mut passes) = Vec::with_capacity(alloc, workers) else {
+            return Err(AllocError);
+        };
         while passes.len() + 1 < workers {
-            passes.push(first.split_off(&tickets))?;
+            let Ok(()) = passes.push(first.split_off(&tickets)) else {
+                return Err(AllocError);
+            };
         }
-        passes.push(first)?;
+        let Ok(()) = passes.push(first) else {
+            return Err(AllocError);
+        };
         Ok((tickets, passes))
     }
 

@@ -76,11 +76,13 @@ pub struct Script<F> {
 fn layer_of_zeros<F: Field>(alloc: Global, bits: u32) -> Result<LayerScript<F>, AllocError>
     ensures { IfOk result (λ layer. layer ≡ zero_layer F.ops bits) }
 {
+    let ra = Elements::zeros(alloc, bits as usize)?;
+    let rb = Elements::zeros(alloc, bits as usize)?;
     Ok(LayerScript {
         alpha: F::zero(),
         beta: F::zero(),
-        ra: Elements::zeros(alloc, bits as usize)?,
-        rb: Elements::zeros(alloc, bits as usize)?,
+        ra,
+        rb,
     })
 }
 
@@ -102,7 +104,7 @@ fn layers_of_zeros<F: Field>(
     let mut list = Vec::with_capacity(alloc, depth as usize)?;
     let mut places = LayerPlaces::first(circuit);
     for l in 0..depth {
-        list.push(layer_of_zeros(alloc, places.bits)?)?;
+        list.push_reserved(layer_of_zeros(alloc, places.bits)?);
         places = places.next(circuit, l);
     }
     Ok(LayerScripts { list })
@@ -114,9 +116,11 @@ impl<F: Field> Script<F> {
         ensures zeros { IfOk result (λ script. script ≡ zero_script F.ops circuit.now) }
         ensures shape { IfOk result (λ script. HasShape circuit.now script) }
     {
+        let out_point = Elements::zeros(alloc, output_bits_of(circuit) as usize)?;
+        let layers = layers_of_zeros(alloc, circuit)?;
         Ok(Script {
-            out_point: Elements::zeros(alloc, output_bits_of(circuit) as usize)?,
-            layers: layers_of_zeros(alloc, circuit)?,
+            out_point,
+            layers,
             gamma: F::zero(),
         })
     }

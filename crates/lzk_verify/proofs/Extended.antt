@@ -1,6 +1,7 @@
 -- What weights over differences of points extend.
 use Rattle.std.specs.Prelude.{◌≡◌, ℕ, ◌<◌, ◌≤◌, ◌+◌, ◌-◌, List, length}
-use Rattle.std.proofs.Common.{sym, ap, ◌∙◌, arith}
+use Rattle.std.proofs.Common.{take, sym, ap, ◌∙◌, arith}
+use Rattle.std.proofs.lemmas.List.{get_or-take, length-take}
 use Rattle.std.proofs.lemmas.List.FromFn.{get_or-map-range_with_len, length-map-range_with_len}
 use Rattle.lzk_field.specs.Ring.{Ops, RingLaws, FieldLaws, Laws}
 use Rattle.lzk_field.specs.Sums.{minus, entry, sum_below, dot_product}
@@ -17,6 +18,11 @@ pub even_inverse : {A : Type 0} (o : Ops A) (r : RingLaws o) (f : FieldLaws o) (
     → entry o table (j - i) ≡ o.inverse (minus o (point j) (point i))
 even_inverse o r f point table i j even inverse room before =
     inverse_unique o r f (minus o (point j) (point i)) (entry o table (j - i)) (ap (λ w. o.times w (entry o table (j - i))) (even i j (omega arith) (omega arith)) ∙ inverse (j - i) (omega arith) (omega arith))
+
+-- the first of the inverses of differences are those of the first differences
+pub first_inverses : {A : Type 0} (o : Ops A) (element : ℕ → A) (point n : ℕ) (inverses : List A) → AreInverseDifferences o element point inverses → AreInverseDifferences o element point (take n inverses)
+first_inverses o element point n inverses are i h =
+    get_or-take n inverses i o.zero (omega (arith, h, length-take n inverses)) ∙ are i (omega (arith, h, length-take n inverses))
 
 module _ {A : Type 0} (o : Ops A) (element : ℕ → A) (values : List A) where
   -- there are as many weighted values

@@ -12,6 +12,11 @@ noted (Some x) b C column h = refl
 noted None true C column h = h.0 refl
 noted None false C column h = (λ x. absurd (let t : false ≡ true = h.1 x in cc), refl)
 
+-- the same, where the check is of what is equal to the values that it is said of
+pub noted_at : {X : Type 0} (Check : X → ℕ → Type 0) (x y : X) (i j : ℕ) (old new : Option ℕ) (is_right : Bool) → x ≡ y → i ≡ j → new ≡ least old is_right i → (IsTrue is_right ↔ Check x i) → IsNoted old new (Check y j) j
+noted_at {X} Check x y i j old new is_right same at is h =
+    subst (λ (z : X × ℕ). IsNoted old new (Check z.0 z.1) z.1) (λ t. (same t, at t)) (subst (λ n. IsNoted old n (Check x i) i) (sym is) (noted old is_right (Check x i) i h))
+
 -- the same of an equivalent fact of each column
 pub least_same : (columns : List ℕ) (P Q : ℕ → Type 0) → ((k : ℕ) → k < length columns → P k → Q k) → ((k : ℕ) → k < length columns → Q k → P k) → (x : Option ℕ) → IsLeastFailing columns P x → IsLeastFailing columns Q x
 least_same columns P Q to from None each = λ k h. to k h (each k h)

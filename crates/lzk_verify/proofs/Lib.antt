@@ -5,6 +5,7 @@ pub mod Extended
 pub mod Fed
 pub mod FieldSteps
 pub mod Judged
+pub mod LeafLaws
 pub mod LeastLaws
 pub mod Beginning
 pub mod ColumnLaws
@@ -13,6 +14,7 @@ pub mod OneVerdict
 pub mod Pushing
 pub mod SentPlaces
 pub mod SomeVerdict
+pub mod SoundSteps
 pub mod Standing
 pub mod Stored
 pub mod Taking

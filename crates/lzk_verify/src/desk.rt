@@ -69,7 +69,9 @@ impl<'c, F: Field> Desk<'c, F> {
         ensures circuit { IfOk result (λ desk. desk.circuit ≡ circuit.now) }
         ensures idle { IfOk result (λ desk. spec.is_fed desk ≡ false) }
     {
-        let id = id(alloc, circuit)?;
+        let Ok(id) = id(alloc, circuit) else {
+            return Err(AllocError);
+        };
         Desk::with_id(alloc, circuit, id)
     }
 
@@ -89,8 +91,12 @@ impl<'c, F: Field> Desk<'c, F> {
     {
         let plan = Plan::of(circuit);
         let cursor = Cursor::new(&plan.params);
-        let intake = Intake::new(alloc, &plan)?;
-        let room = Room::new(alloc, &plan)?;
+        let Ok(intake) = Intake::new(alloc, &plan) else {
+            return Err(AllocError);
+        };
+        let Ok(room) = Room::new(alloc, &plan) else {
+            return Err(AllocError);
+        };
         Ok(Desk {
             plan,
             id,

@@ -82,10 +82,20 @@ impl<F: Field> Drawn<F> {
         ensures opened { IfOk result (λ d. AreOpened (params_of circuit.now).mcol d.columns) }
     {
         let params = Params::of(circuit);
+        // What is made last is dropped at no exit.
+        let Ok(columns) = first_columns(alloc) else {
+            return Err(AllocError);
+        };
+        let Ok(challenges) = Challenges::new(alloc, &params) else {
+            return Err(AllocError);
+        };
+        let Ok(script) = Script::new(alloc, circuit) else {
+            return Err(AllocError);
+        };
         Ok(Drawn {
-            script: Script::new(alloc, circuit)?,
-            challenges: Challenges::new(alloc, &params)?,
-            columns: first_columns(alloc)?,
+            script,
+            challenges,
+            columns,
         })
     }
 

@@ -55,8 +55,8 @@ pub(crate) fn last_factor<F: Field>(at: &Behind<'_, F>) -> F
     at.weights.passed()[place]
 }
 
-// Whether they are the same element.
-fn are_equal<F: Field>(x: F, y: F) -> bool
+/// Whether they are the same element.
+pub(crate) fn are_equal<F: Field>(x: F, y: F) -> bool
     ensures { IsTrue result ↔ x ≡ y }
 {
     x == y

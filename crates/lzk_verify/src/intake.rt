@@ -111,9 +111,15 @@ impl<F: Field> ElementLists<F> {
         ensures sent { IfOk result (λ lists. length lists.sent.items ≡ fields.sent_count plan.now.params) }
         ensures column { IfOk result (λ lists. length lists.column.items ≡ plan.now.params.nrow) }
     {
-        let public = zeros(alloc, plan.circuit.publics() as usize)?;
-        let sent = zeros(alloc, sent_count(plan))?;
-        let column = zeros(alloc, plan.params.nrow as usize)?;
+        let Ok(public) = zeros(alloc, plan.circuit.publics() as usize) else {
+            return Err(AllocError);
+        };
+        let Ok(sent) = zeros(alloc, sent_count(plan)) else {
+            return Err(AllocError);
+        };
+        let Ok(column) = zeros(alloc, plan.params.nrow as usize) else {
+            return Err(AllocError);
+        };
         Ok(ElementLists {
             public,
             sent,
@@ -135,8 +141,13 @@ impl<F: Field> DigestLists<F> {
         ensures rows { IfOk result (λ lists. lists.leaves.rows ≡ plan.now.params.nrow) }
         ensures path { IfOk result (λ lists. length lists.path.items ≡ most_digests) }
     {
-        let leaves = Leaves::new(alloc, plan)?;
-        let path = zero_digests(alloc, MOST_DIGESTS)?;
+        // What is made last is dropped at no exit.
+        let Ok(path) = zero_digests(alloc, MOST_DIGESTS) else {
+            return Err(AllocError);
+        };
+        let Ok(leaves) = Leaves::new(alloc, plan) else {
+            return Err(AllocError);
+        };
         Ok(DigestLists { leaves, path })
     }
 }
@@ -149,9 +160,15 @@ impl<F: Field> Intake<F> {
         ensures script { IfOk result (λ k. sumcheck.HasShape plan.now.circuit.now k.drawn.script) }
         ensures drawn { IfOk result (λ k. k.is_drawn ≡ false) }
     {
-        let elements = ElementLists::new(alloc, plan)?;
-        let opened = DigestLists::new(alloc, plan)?;
-        let drawn = Drawn::new(alloc, plan.circuit)?;
+        let Ok(elements) = ElementLists::new(alloc, plan) else {
+            return Err(AllocError);
+        };
+        let Ok(opened) = DigestLists::new(alloc, plan) else {
+            return Err(AllocError);
+        };
+        let Ok(drawn) = Drawn::new(alloc, plan.circuit) else {
+            return Err(AllocError);
+        };
         Ok(Intake {
             public: elements.public,
             tape: Tape::new(),

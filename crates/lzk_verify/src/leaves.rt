@@ -64,7 +64,9 @@ impl<F: Field> WaitingColumn<F> {
     fn new(alloc: Global, rows: usize) -> Result<WaitingColumn<F>, AllocError>
         ensures { IfOk result (λ column. FitsIn 1 rows column) }
     {
-        let elements = zeros(alloc, rows)?;
+        let Ok(elements) = zeros(alloc, rows) else {
+            return Err(AllocError);
+        };
         Ok(WaitingColumn {
             place: 0,
             nonce: [0; 32],
@@ -89,9 +91,15 @@ impl<F: Field> ThreeColumns<F> {
     fn new(alloc: Global, rows: usize) -> Result<ThreeColumns<F>, AllocError>
         ensures { IfOk result (λ columns. AreThree 1 rows columns) }
     {
-        let first = WaitingColumn::new(alloc, rows)?;
-        let second = WaitingColumn::new(alloc, rows)?;
-        let third = WaitingColumn::new(alloc, rows)?;
+        let Ok(first) = WaitingColumn::new(alloc, rows) else {
+            return Err(AllocError);
+        };
+        let Ok(second) = WaitingColumn::new(alloc, rows) else {
+            return Err(AllocError);
+        };
+        let Ok(third) = WaitingColumn::new(alloc, rows) else {
+            return Err(AllocError);
+        };
         Ok(ThreeColumns {
             first,
             second,
@@ -167,9 +175,16 @@ impl<F: Field> Leaves<F> {
         ensures items { IfOk result (λ leaves. length leaves.items ≡ opened_count) }
         ensures rows { IfOk result (λ leaves. leaves.rows ≡ plan.now.params.nrow) }
     {
-        let columns = ThreeColumns::new(alloc, plan.params.nrow as usize)?;
-        let bytes = room_for_four::<F>(alloc, plan)?;
-        let made = zero_digests(alloc, OPENED)?;
+        // What is made last is dropped at no exit.
+        let Ok(made) = zero_digests(alloc, OPENED) else {
+            return Err(AllocError);
+        };
+        let Ok(bytes) = room_for_four::<F>(alloc, plan) else {
+            return Err(AllocError);
+        };
+        let Ok(columns) = ThreeColumns::new(alloc, plan.params.nrow as usize) else {
+            return Err(AllocError);
+        };
         Ok(Leaves {
             made,
             waiting: 0,

@@ -9,7 +9,7 @@ ghost use Rattle.lzk_verify.specs.Extending.{Extends, weighted};
 ghost use Rattle.lzk_verify.specs.Kept.{dot_in};
 
 use crate::column::{Column, ColumnCheck};
-use crate::extending::extend_to;
+use crate::extending::{are_equal, extend_to};
 use crate::sent::{Sent, dot_of};
 use lzk_field::Field;
 use lzk_layout::BLINDS;
@@ -64,5 +64,9 @@ pub(crate) fn check_linear_sum<F: Field>(sent: &Sent<'_, '_, F>, wanted: F) -> O
         IsChecked (found ≡ wanted) found result }
 {
     let found = found_sum(sent);
-    if found == wanted { None } else { Some(found) }
+    if are_equal(found, wanted) {
+        None
+    } else {
+        Some(found)
+    }
 }

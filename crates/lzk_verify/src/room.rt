@@ -64,8 +64,12 @@ impl<F: Field> LinearRoom<F> {
         ensures forms { IfOk result (λ room. AreFormsOf F.ops circuit.now room.forms) }
         ensures factors { IfOk result (λ room. HasRoomFor circuit.now room.combined) }
     {
-        let combined = Factored::new(alloc, circuit)?;
-        let forms = Forms::new(alloc, circuit)?;
+        let Ok(combined) = Factored::new(alloc, circuit) else {
+            return Err(AllocError);
+        };
+        let Ok(forms) = Forms::new(alloc, circuit) else {
+            return Err(AllocError);
+        };
         Ok(LinearRoom { forms, combined })
     }
 }
@@ -84,8 +88,12 @@ impl<F: Field> AnswerRoom<F> {
         ensures answers { IfOk result (λ room. AreAnswers plan.now.params room.answers) }
         ensures inverses { IfOk result (λ room. length room.inverses.items ≡ plan.now.params.dblock) }
     {
-        let inverses = zeros(alloc, plan.params.dblock as usize)?;
-        let answers = Weighted::new(alloc, plan)?;
+        let Ok(inverses) = zeros(alloc, plan.params.dblock as usize) else {
+            return Err(AllocError);
+        };
+        let Ok(answers) = Weighted::new(alloc, plan) else {
+            return Err(AllocError);
+        };
         Ok(AnswerRoom { answers, inverses })
     }
 }
@@ -104,8 +112,12 @@ impl<F: Field> BothWeights<F> {
         ensures rows { IfOk result (λ weights. weights.rows ≡ spec.rows plan.now.params) }
         ensures products { IfOk result (λ weights. weights.products ≡ spec.products plan.now.params) }
     {
-        let rows = Weights::new(alloc, plan.params.block, plan.params.ncol)?;
-        let products = Weights::new(alloc, plan.params.dblock, plan.params.ncol)?;
+        let Ok(rows) = Weights::new(alloc, plan.params.block, plan.params.ncol) else {
+            return Err(AllocError);
+        };
+        let Ok(products) = Weights::new(alloc, plan.params.dblock, plan.params.ncol) else {
+            return Err(AllocError);
+        };
         Ok(BothWeights { rows, products })
     }
 }
@@ -118,10 +130,18 @@ impl<F: Field> Room<F> {
         ensures factors { IfOk result (λ room. HasRoomFor plan.now.circuit.now room.combined) }
     {
         // What is made last is dropped at no exit.
-        let nodes = zero_digests(alloc, 2 * plan.params.mcol as usize)?;
-        let answered = AnswerRoom::new(alloc, plan)?;
-        let weights = BothWeights::new(alloc, plan)?;
-        let linear = LinearRoom::new(alloc, plan.circuit)?;
+        let Ok(nodes) = zero_digests(alloc, 2 * plan.params.mcol as usize) else {
+            return Err(AllocError);
+        };
+        let Ok(answered) = AnswerRoom::new(alloc, plan) else {
+            return Err(AllocError);
+        };
+        let Ok(weights) = BothWeights::new(alloc, plan) else {
+            return Err(AllocError);
+        };
+        let Ok(linear) = LinearRoom::new(alloc, plan.circuit) else {
+            return Err(AllocError);
+        };
         Ok(Room {
             linear,
             answered,

@@ -76,9 +76,15 @@ impl<F: Field> Weighted<F> {
     pub(crate) fn new(alloc: Global, plan: &Plan<'_, F>) -> Result<Weighted<F>, AllocError>
         ensures { IfOk result (λ answers. AreAnswers plan.now.params answers) }
     {
-        let ldt = zeros(alloc, plan.params.block as usize)?;
-        let dot = zeros(alloc, plan.params.dblock as usize)?;
-        let quadratic = zeros(alloc, plan.params.dblock as usize)?;
+        let Ok(ldt) = zeros(alloc, plan.params.block as usize) else {
+            return Err(AllocError);
+        };
+        let Ok(dot) = zeros(alloc, plan.params.dblock as usize) else {
+            return Err(AllocError);
+        };
+        let Ok(quadratic) = zeros(alloc, plan.params.dblock as usize) else {
+            return Err(AllocError);
+        };
         Ok(Weighted {
             ldt,
             dot,

@@ -38,6 +38,24 @@ returns-clause-challenges g c =
     (a.ensures.drawn ∙ ap (λ n. draws e 0 n t) na) (b.ensures.drawn ∙ ap (λ n. draws e 0 n a.new.tape) nb)
     (d.ensures.drawn ∙ ap (λ n. draws e 0 n b.new.tape) nd) (h.ensures.drawn ∙ ap (λ n. draws e 0 n d.new.tape) nh)
 
+pub returns-clause-shape : goal.returns-clause-shape
+returns-clause-shape g c =
+    let old = c.args.out.now in
+    let a = c.draw_all in
+    let b = c.draw_all-2 in
+    let d = c.draw_all-3 in
+    let h = c.draw_all-4 in
+    let na : length a.new.out ≡ length old.u = a.auto.out ∙ ap length c.as_mut_slice.ensures.value in
+    let nb : length b.new.out ≡ length old.lambda = b.auto.out ∙ ap length c.as_mut_slice-2.ensures.value in
+    let nd : length d.new.out ≡ length old.mu = d.auto.out ∙ ap length c.as_mut_slice-3.ensures.value in
+    let nh : length h.new.out ≡ length old.v = h.auto.out ∙ ap length c.as_mut_slice-4.ensures.value in
+    record {
+      u = ap length (refill_whole (length old.u) old.u a.new.out na) ∙ na ∙ c.requires.shape.u;
+      lambda = ap length (refill_whole (length old.lambda) old.lambda b.new.out nb) ∙ nb ∙ c.requires.shape.lambda;
+      mu = ap length (refill_whole (length old.mu) old.mu d.new.out nd) ∙ nd ∙ c.requires.shape.mu;
+      v = ap length (refill_whole (length old.v) old.v h.new.out nh) ∙ nh ∙ c.requires.shape.v;
+    }
+
 pub returns-clause-tape : goal.returns-clause-tape
 returns-clause-tape g c =
     let f = g.F.Field in

@@ -3,6 +3,27 @@ use Rattle.lzk_field.specs.Sums.{entry}
 use Rattle.lzk_accept.proofs.CombinationLaws.{form_added, larger_reached, eqb-less}
 use Rattle.lzk_accept.proofs.combination.add_form.Goals as goal
 
+pub invariant_of-range : goal.invariant_of-range
+invariant_of-range g c =
+    let r = c.args.reaching.now in
+    record {
+      ordered = c.larger.ensures.least r.form.end r.within.start r.end;
+      inside = r.within.end;
+      behind = c.larger.ensures.second;
+    }
+
+pub add_range-requires-after_bounds : goal.add_range-requires-after_bounds
+add_range-requires-after_bounds g c κs within = omega (arith, c.args.reaching.now.within.end, c.requires.room)
+
+pub overflow_sub-above : goal.overflow_sub-above
+overflow_sub-above g c = c.args.reaching.now.above
+
+pub add_at-requires-after_bounds : goal.add_at-requires-after_bounds
+add_at-requires-after_bounds g c κs within = omega (arith, c.args.reaching.now.within.above, c.args.reaching.now.above, c.requires.room, c.add_range.auto.sums)
+
+pub add_at-requires-2-after_bounds : goal.add_at-requires-2-after_bounds
+add_at-requires-2-after_bounds g c κs within = omega (arith, c.args.reaching.now.within.above, c.args.reaching.now.above, c.requires.room, c.add_range.auto.sums, c.add_at.auto.sums)
+
 pub returns : goal.returns
 returns g c j =
     let o = g.F.Field.ops in

@@ -6,8 +6,35 @@ use Rattle.lzk_layout.specs.Sizes.{committed_count, place_of}
 use Rattle.lzk_layout.proofs.PlaceLaws.{pads_within}
 use Rattle.lzk_accept.specs.Combination.{sum_where, is_place}
 use Rattle.lzk_accept.specs.Kept.{LinearForms, coefficient_in, form_at, source_in, IsWithin}
-use Rattle.lzk_accept.proofs.CombinationLaws.{form_within, form_behind, source_end, list_fits_behind, rows_within, combined_is, wanted_is}
+use Rattle.lzk_accept.proofs.CombinationLaws.{form_within, form_behind, source_end, list_fits_behind, rows_within, few_entries, combined_is, wanted_is}
 use Rattle.lzk_accept.proofs.combination.combine_from.Goals as goal
+
+pub overflow_mul-skip : goal.overflow_mul-skip
+overflow_mul-skip g c =
+    let k = c.args.combining.now in
+    let p = k.params.now in
+    let few = k.filled c.requires.forms.circuit c.requires.forms.params c.requires.forms.forms in
+    let rows = rows_within p k.rows k.bounded (omega (arith, few, ap (λ (p : Params). p.nw) c.requires.forms.params)) in
+    omega (arith, few_entries p k.rows k.bounded (omega (arith, rows, k.bounded.rows)))
+
+pub invariant_of-kept-clause-drawn : goal.invariant_of-kept-clause-drawn
+invariant_of-kept-clause-drawn g c =
+    let forms = c.deref.ensures.value ∙ ap (λ (x : LinearForms g.row.F.Denot). x.forms) c.forms.view_is in
+    omega (arith, ap length c.as_slice.ensures, c.args.combining.now.drawn.lambda, ap length forms, c.requires.forms.forms.count, ap (λ (p : Params). p.layers) c.requires.forms.params)
+
+pub invariant_of-copies-clause-bounded : goal.invariant_of-copies-clause-bounded
+invariant_of-copies-clause-bounded g c = c.args.combining.now.bounded
+
+pub invariant_of-copies-clause-count : goal.invariant_of-copies-clause-count
+invariant_of-copies-clause-count g c =
+    let forms = c.deref-3.ensures.value ∙ ap (λ (x : LinearForms g.row.F.Denot). x.forms) c.forms.view_is in
+    omega (arith, ap length forms, c.requires.forms.forms.count, ap (λ (p : Params). p.layers) c.requires.forms.params)
+
+pub invariant_of-copies-clause-drawn : goal.invariant_of-copies-clause-drawn
+invariant_of-copies-clause-drawn g c = ap length c.as_slice-2.ensures ∙ c.args.combining.now.drawn.mu
+
+pub add_copies-requires-after_bounds : goal.add_copies-requires-after_bounds
+add_copies-requires-after_bounds g c κs within = omega (arith, c.sum_forms-wanted.auto.sums, c.requires.room)
 
 pub invariant_of-kept-clause-within : goal.invariant_of-kept-clause-within
 invariant_of-kept-clause-within g c i h =

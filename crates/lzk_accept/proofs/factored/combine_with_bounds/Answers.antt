@@ -2,6 +2,33 @@ use Rattle.std.proofs.Common.{subst}
 use Rattle.lzk_accept.specs.Kept.{AreRest}
 use Rattle.lzk_accept.proofs.factored.combine_with_bounds.Goals as goal
 
+pub filled_inputs-skip-requires-clause-rows : goal.filled_inputs-skip-requires-clause-rows
+filled_inputs-skip-requires-clause-rows g c κs within = c.requires.room.rows
+
+pub rest_with_bounds-requires-clause-skip : goal.rest_with_bounds-requires-clause-skip
+rest_with_bounds-requires-clause-skip g c κs within = c.filled_inputs-skip.ensures.few
+
+pub rest_with_bounds-requires-clause-bounds : goal.rest_with_bounds-requires-clause-bounds
+rest_with_bounds-requires-clause-bounds g c κs within = c.requires.bounds
+
+pub rest_with_bounds-requires-clause-made : goal.rest_with_bounds-requires-clause-made
+rest_with_bounds-requires-clause-made g c κs within = c.requires.forms
+
+pub fill-requires-clause-challenges : goal.fill-requires-clause-challenges
+fill-requires-clause-challenges g c κs within = c.requires.challenges
+
+pub fill-requires-clause-forms : goal.fill-requires-clause-forms
+fill-requires-clause-forms g c κs within = c.rest_with_bounds.ensures.made
+
+pub fill-requires-clause-room : goal.fill-requires-clause-room
+fill-requires-clause-room g c κs within = c.requires.room
+
+pub returns-clause-forms : goal.returns-clause-forms
+returns-clause-forms g c = c.fill.ensures.forms
+
+pub returns-clause-room : goal.returns-clause-room
+returns-clause-room g c = c.fill.ensures.room
+
 pub returns-clause-combined : goal.returns-clause-combined
 returns-clause-combined g c =
     let f = g.F.Field in

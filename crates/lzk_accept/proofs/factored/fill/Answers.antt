@@ -1,4 +1,4 @@
-use Rattle.std.proofs.Common.{◌≡◌, ◌+◌, ◌*◌, ◌/◌, ◌<◌, ◌≤◌, ◌^◌, length, sym, ap, ◌∙◌, subst, arith}
+use Rattle.std.proofs.Common.{◌≡◌, ◌+◌, ◌-◌, ◌*◌, ◌/◌, ◌<◌, ◌≤◌, ◌^◌, length, sym, ap, ◌∙◌, subst, arith}
 use Rattle.std.specs.List.{refill}
 use Rattle.lzk_field.specs.Sums.{sum_below, entry}
 use Rattle.lzk_circuit.specs.Bits.{bits}
@@ -7,11 +7,47 @@ use Rattle.lzk_layout.specs.Places.{depth}
 use Rattle.lzk_layout.specs.Sizes.{committed_count, params_of, AreBounded}
 use Rattle.lzk_sumcheck.specs.Coefficients.{coefficients}
 use Rattle.lzk_sumcheck.proofs.Filled.{refill_whole}
-use Rattle.lzk_accept.specs.Kept.{coefficient, right, private_coefficient}
+use Rattle.lzk_accept.specs.Challenges as drawn
+use Rattle.lzk_accept.specs.Kept.{coefficient, right, private_coefficient, AreFormsOf}
 use Rattle.lzk_accept.specs.Residuals.{linear_coefficient, right_side}
 use Rattle.lzk_accept.proofs.FactorLaws.{width_power, row_end}
 use Rattle.lzk_accept.proofs.PrivateLaws.{filled, same_privates, same_wanted, combined_behind, combined_private}
 use Rattle.lzk_accept.proofs.factored.fill.Goals as goal
+
+pub invariant_of-combining-clause-bounded : goal.invariant_of-combining-clause-bounded
+invariant_of-combining-clause-bounded g c = c.of-params.ensures.bounds
+
+pub invariant_of-combining-clause-drawn : goal.invariant_of-combining-clause-drawn
+invariant_of-combining-clause-drawn g c = subst (λ (q : Params). drawn.HasShape q c.args.challenges.now) (sym c.of-params.ensures.params) c.requires.challenges
+
+pub combine_from-wanted-requires-clause-forms : goal.combine_from-wanted-requires-clause-forms
+combine_from-wanted-requires-clause-forms g c κs within =
+    record { circuit = c.args.scripted.now.circuit.now; params = c.of-params.ensures.params; forms = c.requires.forms }
+
+pub combine_from-wanted-requires-clause-room : goal.combine_from-wanted-requires-clause-room
+combine_from-wanted-requires-clause-room g c κs within =
+    ap length c.as_mut_slice.ensures.value ∙ c.requires.room.table ∙ ap (λ (q : Params). (q.nrow - 3 - c.args.factored.now.rows) * q.wr) (sym c.of-params.ensures.params)
+
+pub set_private_factors-requires-clause-made : goal.set_private_factors-requires-clause-made
+set_private_factors-requires-clause-made g c κs within = c.requires.forms
+
+pub returns-clause-forms : goal.returns-clause-forms
+returns-clause-forms g c = subst (AreFormsOf g.F.Field.ops c.args.scripted.now.circuit.now) (sym c.set_private_factors.ensures.forms) c.requires.forms
+
+pub returns-clause-room : goal.returns-clause-room
+returns-clause-room g c =
+    let room = c.args.factored.now in
+    let set = c.set_private_factors in
+    let table = c.combine_from-wanted in
+    let nr = set.auto.row_factors ∙ ap length c.as_mut_slice-2.ensures.value in
+    let np = set.auto.place_factors ∙ ap length c.as_mut_slice-3.ensures.value in
+    let nt = table.auto.table ∙ ap length c.as_mut_slice.ensures.value in
+    record {
+      rows = c.requires.room.rows;
+      row_factors = ap length (refill_whole (length room.row_factors) room.row_factors set.new.row_factors nr) ∙ nr ∙ c.requires.room.row_factors;
+      place_factors = ap length (refill_whole (length room.place_factors) room.place_factors set.new.place_factors np) ∙ np ∙ c.requires.room.place_factors;
+      table = ap length (refill_whole (length room.table) room.table table.new.table nt) ∙ nt ∙ c.requires.room.table;
+    }
 
 pub invariant_of-combining-clause-filled : goal.invariant_of-combining-clause-filled
 invariant_of-combining-clause-filled g c d e are =

@@ -9,6 +9,27 @@ use Rattle.lzk_accept.proofs.FactorLaws.{row_end, products_at}
 use Rattle.lzk_accept.proofs.ShapeLaws.{power_small}
 use Rattle.lzk_accept.proofs.factored.set_point_factors.Goals as goal
 
+pub split_at-requires : goal.split_at-requires
+split_at-requires g c = c.args.taken.now.within
+
+pub power_of-width-requires : goal.power_of-width-requires
+power_of-width-requires g c = omega (arith, c.args.taken.now.within, c.args.taken.now.few)
+
+pub eq_table-requires-clause-few : goal.eq_table-requires-clause-few
+eq_table-requires-clause-few g c κs within = omega (arith, c.split_at.ensures.front_len, c.args.taken.now.within, c.args.taken.now.few)
+
+pub eq_table-requires-clause-size : goal.eq_table-requires-clause-size
+eq_table-requires-clause-size g c κs within = c.split_at_mut-low_table.ensures.front_len ∙ c.power_of-width.ensures ∙ ap (λ n. 2 ^ n) (sym c.split_at.ensures.front_len)
+
+pub power_of-requires : goal.power_of-requires
+power_of-requires g c = omega (arith, c.split_at.ensures.back_len, c.args.taken.now.few)
+
+pub eq_table-requires-2-clause-few : goal.eq_table-requires-2-clause-few
+eq_table-requires-2-clause-few g c κs within = omega (arith, c.split_at.ensures.back_len, c.args.taken.now.few)
+
+pub eq_table-requires-2-clause-size : goal.eq_table-requires-2-clause-size
+eq_table-requires-2-clause-size g c κs within = c.split_at_mut-high_table.ensures.front_len ∙ c.power_of.ensures
+
 pub split_at_mut-low_table-requires : goal.split_at_mut-low_table-requires
 split_at_mut-low_table-requires g c = omega (arith, c.power_of-width.ensures, pow_mono {i = c.args.taken.now.bits} {j = length c.args.taken.now.r.now} c.args.taken.now.within, c.requires.room.first)
 

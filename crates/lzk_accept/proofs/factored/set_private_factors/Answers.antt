@@ -1,4 +1,5 @@
-use Rattle.std.proofs.Common.{◌≡◌, ◌+◌, ◌*◌, ◌^◌, length, ap, ◌∙◌, arith}
+use Rattle.std.proofs.Common.{◌≡◌, ◌+◌, ◌*◌, ◌^◌, length, refl, sym, ap, ◌∙◌, arith}
+use Rattle.std.proofs.lemmas.List.{with_items_is}
 use Rattle.lzk_mle.specs.Multilinear.{eq}
 use Rattle.lzk_circuit.specs.Bits.{bits}
 use Rattle.lzk_layout.specs.Places.{depth, width_at}
@@ -7,6 +8,35 @@ use Rattle.lzk_accept.specs.Kept.{LinearForms}
 use Rattle.lzk_accept.proofs.ShapeLaws.{input_bits}
 use Rattle.lzk_accept.proofs.FactorLaws.{bits_within}
 use Rattle.lzk_accept.proofs.factored.set_private_factors.Goals as goal
+
+pub returns-then-rows-eq0-clause-forms : goal.returns-then-rows-eq0-clause-forms
+returns-then-rows-eq0-clause-forms g c = refl
+
+pub returns-then-rows-eq0-clause-products : goal.returns-then-rows-eq0-clause-products
+returns-then-rows-eq0-clause-products g c i s hi hs = absurd (omega (arith, hi, c.if-rows-eq0.true))
+
+pub points_on-requires-clause-layer : goal.points_on-requires-clause-layer
+points_on-requires-clause-layer g c κs within = omega (arith, c.depth-depth.ensures.depth)
+
+pub invariant_of-twice : goal.invariant_of-twice
+invariant_of-twice g c = record { same = c.points_on.ensures.second_length ∙ sym c.points_on.ensures.first_length }
+
+pub set_both_factors-requires-clause-factors : goal.set_both_factors-requires-clause-factors
+set_both_factors-requires-clause-factors g c κs within = c.requires.factors
+
+pub invariant_of-forms : goal.invariant_of-forms
+invariant_of-forms g c =
+    let inside = c.forms.inside in
+    let set = c.set_both_factors in
+    let one : length set.new.low ≡ length inside.first.items = set.auto.low ∙ ap length c.deref_mut.ensures.value in
+    let other : length set.new.high ≡ length inside.second.items = set.auto.high ∙ ap length c.deref_mut-2.ensures.value in (
+      ap length (with_items_is inside.first set.new.low (one ∙ sym inside.first.ok.0)) ∙ one ∙ c.forms.invariant.0,
+      ap length (with_items_is inside.second set.new.high (other ∙ sym inside.second.ok.0)) ∙ other ∙ c.forms.invariant.1,
+      c.forms.invariant.2,
+    )
+
+pub returns-clause-forms : goal.returns-clause-forms
+returns-clause-forms g c = c.forms.view_is
 
 pub invariant_of-taken-clause-few : goal.invariant_of-taken-clause-few
 invariant_of-taken-clause-few g c =

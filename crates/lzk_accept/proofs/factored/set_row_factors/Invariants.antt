@@ -1,11 +1,9 @@
-use Rattle.std.proofs.Common.{◌≡◌, ℕ, ◌+◌, ◌<◌}
+use Rattle.std.proofs.Common.{◌+◌}
 use Rattle.lzk_field.specs.Sums.{entry}
+use Rattle.lzk_accept.proofs.FactorLaws.{AreSetTo}
 use Rattle.lzk_accept.proofs.factored.set_row_factors.Given as goal
 
 abbrev pub invariant-loop-i : goal.invariant-loop-i
 invariant-loop-i g l =
     let o = g.F.Field.ops in
-    record {
-      here : (k : ℕ) → k < l.i → entry o l.factors k ≡ o.times l.by (entry o l.table (l.high + k));
-      next : (k : ℕ) → k < l.i → entry o l.factors (l.rows + k) ≡ o.times l.by (entry o l.table (l.high + k + 1));
-    }
+    AreSetTo o (λ k. o.times l.by (entry o l.table (l.high + k))) (λ k. o.times l.by (entry o l.table (l.high + k + 1))) l.rows l.i l.factors

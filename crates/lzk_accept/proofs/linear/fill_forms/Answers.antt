@@ -20,6 +20,22 @@ last_form-last-requires-clause-form g c κs within =
 pub last_form-last-requires-clause-own : goal.last_form-last-requires-clause-own
 last_form-last-requires-clause-own g c κs within = omega (arith, c.fill_layers-above.ensures.placed.own)
 
+pub fill_layers-above-requires-clause-placed : goal.fill_layers-above-requires-clause-placed
+fill_layers-above-requires-clause-placed g c κs within = c.requires.placed
+
+pub form_of-old-requires-clause-place : goal.form_of-old-requires-clause-place
+form_of-old-requires-clause-place g c κs within = omega (arith, c.fill_layers-above.ensures.placed.count, c.depth-depth.ensures.depth)
+
+pub set_form-requires-clause-place : goal.set_form-requires-clause-place
+set_form-requires-clause-place g c κs within = omega (arith, c.fill_layers-above.ensures.placed.count, c.depth-depth.ensures.depth)
+
+pub returns-clause-forms_length : goal.returns-clause-forms_length
+returns-clause-forms_length g c =
+    ap length c.set_form.ensures ∙ length-set c.fill_layers-above.new.forms c.depth-depth.result c.last_form-last.result ∙ c.fill_layers-above.ensures.forms_length
+
+pub returns-clause-own_length : goal.returns-clause-own_length
+returns-clause-own_length g c = c.last_form-last.ensures.length ∙ c.fill_layers-above.ensures.own_length
+
 pub returns-clause-placed : goal.returns-clause-placed
 returns-clause-placed g c =
     let o = g.F.Field.ops in

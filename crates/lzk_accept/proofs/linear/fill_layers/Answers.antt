@@ -24,17 +24,70 @@ loop-l-init g c =
       constraints = λ public i h. absurd (omega (arith, h));
     }
 
+pub form_of-requires-clause-place : goal.form_of-requires-clause-place
+form_of-requires-clause-place g c κs within = omega (arith, c.depth-depth.ensures.depth, c.loop-l-test.true, c.loop-l.auto.l-end, c.loop-l.invariant.forms_length, c.requires.placed.count)
+
+pub invariant_of-turn-clause-inside : goal.invariant_of-turn-clause-inside
+invariant_of-turn-clause-inside g c = subst (λ n. c.loop-l.l < n) c.depth-depth.ensures.depth c.loop-l-test.true
+
+pub invariant_of-turn-clause-placed : goal.invariant_of-turn-clause-placed
+invariant_of-turn-clause-placed g c = c.loop-l.invariant.places
+
+pub invariant_of-turn-clause-within : goal.invariant_of-turn-clause-within
+invariant_of-turn-clause-within g c = c.loop-l.invariant.within (subst (λ n. c.loop-l.l < n) c.depth-depth.ensures.depth c.loop-l-test.true)
+
+pub invariant_of-turn-clause-above_first : goal.invariant_of-turn-clause-above_first
+invariant_of-turn-clause-above_first g c = c.loop-l.invariant.above_a
+
+pub invariant_of-turn-clause-above_second : goal.invariant_of-turn-clause-above_second
+invariant_of-turn-clause-above_second g c = c.loop-l.invariant.above_b
+
+pub layer_form-form-requires-after_bounds : goal.layer_form-form-requires-after_bounds
+layer_form-form-requires-after_bounds g c κs within = c.loop-l.invariant.own_length ∙ c.requires.placed.own
+
+pub set_form-requires-clause-place : goal.set_form-requires-clause-place
+set_form-requires-clause-place g c κs within = omega (arith, c.depth-depth.ensures.depth, c.loop-l-test.true, c.loop-l.auto.l-end, c.loop-l.invariant.forms_length, c.requires.placed.count)
+
+pub next-places-requires-clause-layer : goal.next-places-requires-clause-layer
+next-places-requires-clause-layer g c κs within = subst (λ n. c.loop-l.l < n) c.depth-depth.ensures.depth c.loop-l-test.true
+
+pub next-places-requires-clause-places : goal.next-places-requires-clause-places
+next-places-requires-clause-places g c κs within = c.loop-l.invariant.places
+
+pub returns-clause-forms_length : goal.returns-clause-forms_length
+returns-clause-forms_length g c = c.loop-l.invariant.forms_length
+
+pub returns-clause-own_length : goal.returns-clause-own_length
+returns-clause-own_length g c = c.loop-l.invariant.own_length
+
+pub returns-clause-above_a : goal.returns-clause-above_a
+returns-clause-above_a g c =
+    let e = c.args.prepared.now.exchange in
+    let w = e.scripted.circuit.now in
+    let all : c.loop-l.l ≡ depth w = omega (arith, c.depth-depth.ensures.depth, c.loop-l-test.false, c.loop-l.auto.l-end) in
+    c.loop-l.invariant.above_a ∙ ap (above_a g.F.Field.ops w e.messages.now) all
+
+pub returns-clause-above_b : goal.returns-clause-above_b
+returns-clause-above_b g c =
+    let e = c.args.prepared.now.exchange in
+    let w = e.scripted.circuit.now in
+    let all : c.loop-l.l ≡ depth w = omega (arith, c.depth-depth.ensures.depth, c.loop-l-test.false, c.loop-l.auto.l-end) in
+    c.loop-l.invariant.above_b ∙ ap (above_b g.F.Field.ops w e.messages.now) all
+
+pub returns-clause-constraints : goal.returns-clause-constraints
+returns-clause-constraints g c public i h = c.loop-l.invariant.constraints public i (omega (arith, h, c.depth-depth.ensures.depth, c.loop-l-test.false, c.loop-l.auto.l-end))
+
 pub invariant_of-turn-clause-bounded : goal.invariant_of-turn-clause-bounded
 invariant_of-turn-clause-bounded g c =
     let l = c.loop-l.l in
-    let h : l < depth c.args.prepared.now.exchange.scripted.circuit.now = omega (arith, c.depth-depth.ensures.depth, c.loop-l-test.true, c.loop-l.auto.l-end) in
+    let h : l < depth c.args.prepared.now.exchange.scripted.circuit.now = subst (λ n. c.loop-l.l < n) c.depth-depth.ensures.depth c.loop-l-test.true in
     c.entry_at-bound.ensures ∙ c.args.prepared.now.are.each l h
 
 pub invariant_of-turn-clause-form_placed : goal.invariant_of-turn-clause-form_placed
 invariant_of-turn-clause-form_placed g c =
     let w = c.args.prepared.now.exchange.scripted.circuit.now in
     let l = c.loop-l.l in
-    let h : l < depth w = omega (arith, c.depth-depth.ensures.depth, c.loop-l-test.true, c.loop-l.auto.l-end) in
+    let h : l < depth w = subst (λ n. c.loop-l.l < n) c.depth-depth.ensures.depth c.loop-l-test.true in
     subst (IsPlacedAt w l) (sym c.form_of.ensures) (c.loop-l.invariant.placed l (omega arith))
 
 pub loop-l-preserved : goal.loop-l-preserved
@@ -46,7 +99,7 @@ loop-l-preserved g c =
     let ms = c.args.prepared.now.exchange.messages.now in
     let q = coefficients o w s in
     let l = c.loop-l.l in
-    let h : l < depth w = omega (arith, c.depth-depth.ensures.depth, c.loop-l-test.true, c.loop-l.auto.l-end) in
+    let h : l < depth w = subst (λ n. c.loop-l.l < n) c.depth-depth.ensures.depth c.loop-l-test.true in
     let inv = c.loop-l.invariant in
     let forms = c.loop-l.forms in
     let form = c.layer_form-form.result in

@@ -1,24 +1,47 @@
-use Rattle.std.proofs.Common.{◌≡◌, ◌+◌, ◌*◌, sym, ap, ◌∙◌, subst, arith}
+use Rattle.std.proofs.Common.{◌≡◌, ◌+◌, ◌*◌, sym, ap, ◌∙◌, arith}
 use Rattle.lzk_field.specs.Sums.{entry, sum_below, minus}
 use Rattle.lzk_field.proofs.SumLaws.{sum-ext}
 use Rattle.lzk_layout.specs.declared.places.LayerPlaces.{LayerPlaces}
 use Rattle.lzk_layout.specs.Places.{bits_under, round_count, sent_at, pads_at, factors_sent_at, factors_at}
 use Rattle.lzk_layout.proofs.PlaceLaws.{pads_next}
 use Rattle.lzk_sumcheck.specs.Coefficients.{coefficients}
-use Rattle.lzk_sumcheck.specs.Script.{layer_at, HasBits}
+use Rattle.lzk_sumcheck.specs.Script.{layer_at}
 use Rattle.lzk_accept.specs.Kept.{above_a, above_b}
 use Rattle.lzk_accept.specs.Walks.{through_rounds, challenge_of}
 use Rattle.lzk_accept.proofs.KeptLaws.{start_is, end_is}
 use Rattle.lzk_accept.proofs.LinearLaws.{layer_is}
-use Rattle.lzk_accept.proofs.ShapeLaws.{layer_shape}
 use Rattle.lzk_accept.proofs.linear.layer_form.Goals as goal
 
-pub invariant_of-rounds-clause-drawn : goal.invariant_of-rounds-clause-drawn
-invariant_of-rounds-clause-drawn g c =
-    let o = g.F.Field.ops in
-    let w = c.args.turn.now.exchange.now.scripted.circuit.now in
-    let bits : bits_under w c.args.turn.now.l ≡ c.args.turn.now.places.bits = sym (ap (λ (p : LayerPlaces). p.bits) c.args.turn.now.placed) in
-    subst (λ k. HasBits k c.layer_of-layer.result.now) bits (subst (HasBits (bits_under w c.args.turn.now.l)) (sym c.layer_of-layer.ensures.layer) (layer_shape o w c.args.turn.now.exchange.now.scripted.script.now c.args.turn.now.exchange.now.scripted.shape c.args.turn.now.l c.args.turn.now.inside))
+pub layer_of-layer-requires-clause-layer : goal.layer_of-layer-requires-clause-layer
+layer_of-layer-requires-clause-layer g c κs within = c.args.turn.now.inside
+
+pub invariant_of-rounds : goal.invariant_of-rounds
+invariant_of-rounds g c =
+    let t = c.args.turn.now in
+    let sent = ap (λ (p : LayerPlaces). p.factors_sent) t.placed in
+    record { within = omega (arith, sent, ap (λ (p : LayerPlaces). p.messages) t.placed, ap (λ (p : LayerPlaces). p.bits) t.placed, t.within.sent, t.exchange.now.count) }
+
+pub claim_form-claim-requires-clause-room : goal.claim_form-claim-requires-clause-room
+claim_form-claim-requires-clause-room g c κs within =
+    let t = c.args.turn.now in
+    let factors = ap (λ (p : LayerPlaces). p.factors) t.placed in
+    omega (arith, factors, ap (λ (p : LayerPlaces). p.pads) t.placed, ap (λ (p : LayerPlaces). p.bits) t.placed, t.within.committed, c.requires)
+
+pub set_factors-requires-after_bounds : goal.set_factors-requires-after_bounds
+set_factors-requires-after_bounds g c κs within = omega (arith, c.args.turn.now.within.committed, c.requires, c.claim_form-claim.ensures.length)
+
+pub returns-clause-length : goal.returns-clause-length
+returns-clause-length g c = c.set_factors.ensures.length ∙ c.claim_form-claim.ensures.length
+
+pub returns-clause-before : goal.returns-clause-before
+returns-clause-before g c j h =
+    let t = c.args.turn.now in
+    let pads = ap (λ (p : LayerPlaces). p.pads) t.placed in
+    let factors = ap (λ (p : LayerPlaces). p.factors) t.placed in
+    c.set_factors.ensures.before j (omega (arith, h, factors)) ∙ c.claim_form-claim.ensures.before j (omega (arith, h, pads))
+
+pub returns-clause-placed : goal.returns-clause-placed
+returns-clause-placed g c = let at = c.args.turn.now.form_placed in record { start = at.start; end = at.end; above = at.above }
 
 pub returns-clause-after : goal.returns-clause-after
 returns-clause-after g c j h =

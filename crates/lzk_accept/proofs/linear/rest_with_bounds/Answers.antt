@@ -21,10 +21,32 @@ invariant_of-prepared-clause-at g c =
     let s = c.args.exchange.scripted.script.now in
     let inside = c.forms.inside in
     let tables = c.set_input_tables.new in
-    let nf : length tables.first ≡ inside.first.len = omega (arith, c.set_input_tables.ensures.first_length, ap length c.deref_mut.ensures.value, inside.first.ok.0) in
-    let ns : length tables.second ≡ inside.second.len = omega (arith, c.set_input_tables.ensures.second_length, ap length c.deref_mut-2.ensures.value, inside.second.ok.0) in
+    let nf : length tables.first ≡ inside.first.len = c.set_input_tables.ensures.first_length ∙ ap length c.deref_mut.ensures.value ∙ sym inside.first.ok.0 in
+    let ns : length tables.second ≡ inside.second.len = c.set_input_tables.ensures.second_length ∙ ap length c.deref_mut-2.ensures.value ∙ sym inside.second.ok.0 in
     subst (λ xs. AreTablesAt g.F.Field.ops w s (depth w) xs c.deref-2.result.now) (sym (c.deref.ensures.value ∙ with_items_is inside.first tables.first nf))
     (subst (AreTablesAt g.F.Field.ops w s (depth w) tables.first) (sym (c.deref-2.ensures.value ∙ with_items_is inside.second tables.second ns)) c.set_input_tables.ensures.at)
+
+pub invariant_of-prepared-clause-are : goal.invariant_of-prepared-clause-are
+invariant_of-prepared-clause-are g c = c.requires.bounds
+
+pub invariant_of-prepared-clause-few : goal.invariant_of-prepared-clause-few
+invariant_of-prepared-clause-few g c = c.requires.skip
+
+pub invariant_of-forms : goal.invariant_of-forms
+invariant_of-forms g c =
+    let inside = c.forms.inside in
+    let tables = c.set_input_tables.new in
+    let e = c.set_input_tables.ensures in
+    let one = ap length c.deref_mut.ensures.value in
+    let other = ap length c.deref_mut-2.ensures.value in
+    let kept = ap length c.deref_mut-3.ensures.value in
+    let n1 : length tables.first ≡ inside.first.len = e.first_length ∙ one ∙ sym inside.first.ok.0 in
+    let n2 : length tables.second ≡ inside.second.len = e.second_length ∙ other ∙ sym inside.second.ok.0 in
+    let nf : length c.fill_forms.new.forms ≡ inside.forms.len = c.fill_forms.ensures.forms_length ∙ kept ∙ sym inside.forms.ok.0 in (
+      ap length (with_items_is inside.first tables.first n1) ∙ e.first_length ∙ one ∙ c.forms.invariant.0,
+      ap length (with_items_is inside.second tables.second n2) ∙ e.second_length ∙ other ∙ c.forms.invariant.1,
+      c.forms.invariant.2 ∙ sym (ap length (with_items_is inside.forms c.fill_forms.new.forms nf) ∙ c.fill_forms.ensures.forms_length ∙ kept),
+    )
 
 pub fill_forms-requires-clause-placed : goal.fill_forms-requires-clause-placed
 fill_forms-requires-clause-placed g c κs within =
@@ -41,8 +63,8 @@ returns-clause-made g c =
     let o = g.F.Field.ops in
     let w = c.args.exchange.scripted.circuit.now in
     let inside = c.forms.inside in
-    let nf : length c.fill_forms.new.forms ≡ inside.forms.len = omega (arith, c.fill_forms.ensures.forms_length, ap length c.deref_mut-3.ensures.value, inside.forms.ok.0) in
-    let no : length c.fill_forms.new.own ≡ inside.own.len = omega (arith, c.fill_forms.ensures.own_length, ap length c.deref_mut-4.ensures.value, inside.own.ok.0) in
+    let nf : length c.fill_forms.new.forms ≡ inside.forms.len = c.fill_forms.ensures.forms_length ∙ ap length c.deref_mut-3.ensures.value ∙ sym inside.forms.ok.0 in
+    let no : length c.fill_forms.new.own ≡ inside.own.len = c.fill_forms.ensures.own_length ∙ ap length c.deref_mut-4.ensures.value ∙ sym inside.own.ok.0 in
     let ef = with_items_is inside.forms c.fill_forms.new.forms nf in
     let eo = with_items_is inside.own c.fill_forms.new.own no in
     let room : length inside.weights.items ≡ c.args.forms.now.room = ap (λ (x : LinearForms g.row.F.Denot). x.room) c.forms.view_is in
@@ -60,8 +82,8 @@ returns-clause-rest g c =
     let inside = c.forms.inside in
     let forms = c.fill_forms.new.forms in
     let own = c.fill_forms.new.own in
-    let nf : length c.fill_forms.new.forms ≡ inside.forms.len = omega (arith, c.fill_forms.ensures.forms_length, ap length c.deref_mut-3.ensures.value, inside.forms.ok.0) in
-    let no : length c.fill_forms.new.own ≡ inside.own.len = omega (arith, c.fill_forms.ensures.own_length, ap length c.deref_mut-4.ensures.value, inside.own.ok.0) in
+    let nf : length c.fill_forms.new.forms ≡ inside.forms.len = c.fill_forms.ensures.forms_length ∙ ap length c.deref_mut-3.ensures.value ∙ sym inside.forms.ok.0 in
+    let no : length c.fill_forms.new.own ≡ inside.own.len = c.fill_forms.ensures.own_length ∙ ap length c.deref_mut-4.ensures.value ∙ sym inside.own.ok.0 in
     let rest = AreRest f.ops f.coding.element c.args.exchange.scripted.circuit.now c.args.exchange.public.now c.args.exchange.scripted.script.now c.args.exchange.messages.now c.args.skip in
     subst (λ fs. rest fs (with_items inside.own own).items) (sym (with_items_is inside.forms forms nf))
     (subst (rest forms) (sym (with_items_is inside.own own no)) c.fill_forms.ensures.rest)

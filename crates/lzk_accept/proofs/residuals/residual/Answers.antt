@@ -1,4 +1,4 @@
-use Rattle.std.proofs.Common.{◌≡◌, ap, ◌∙◌, arith}
+use Rattle.std.proofs.Common.{◌≡◌, refl, ap, ◌∙◌, arith}
 use Rattle.lzk_layout.specs.Places.{depth}
 use Rattle.lzk_sumcheck.specs.Coefficients.{coefficients}
 use Rattle.lzk_sumcheck.specs.Script.{point_a, point_b}
@@ -6,13 +6,34 @@ use Rattle.lzk_accept.specs.Residuals.{inputs_at}
 use Rattle.lzk_accept.proofs.ResidualLaws.{residual-form, residual_layer, residual_inputs}
 use Rattle.lzk_accept.proofs.residuals.residual.Goals as goal
 
+pub after_rounds-claim-requires-clause-layer : goal.after_rounds-claim-requires-clause-layer
+after_rounds-claim-requires-clause-layer g c κs within = omega (arith, c.if-i-depth.true, c.depth.ensures.depth)
+
+pub bound_of-bound-requires-clause-layer : goal.bound_of-bound-requires-clause-layer
+bound_of-bound-requires-clause-layer g c κs within = omega (arith, c.if-i-depth.true, c.depth.ensures.depth)
+
+pub product_of-requires-clause-layer : goal.product_of-requires-clause-layer
+product_of-requires-clause-layer g c κs within = omega (arith, c.if-i-depth.true, c.depth.ensures.depth)
+
+pub inputs_of-inputs-requires-clause-room : goal.inputs_of-inputs-requires-clause-room
+inputs_of-inputs-requires-clause-room g c κs within = c.requires.room
+
+pub claims_on-first-requires-clause-layer : goal.claims_on-first-requires-clause-layer
+claims_on-first-requires-clause-layer g c κs within = c.requires.i
+
+pub returns-then-i-depth-clause-room : goal.returns-then-i-depth-clause-room
+returns-then-i-depth-clause-room g c = refl
+
+pub returns-else-i-depth-clause-room : goal.returns-else-i-depth-clause-room
+returns-else-i-depth-clause-room g c = c.inputs_of-inputs.ensures.room
+
 pub returns-then-i-depth-clause-value : goal.returns-then-i-depth-clause-value
 returns-then-i-depth-clause-value g c =
     let f = g.F.Field in
     let a = c.args in
     residual_layer f.ops f.laws.ring f.coding.element a.circuit.now (coefficients f.ops a.circuit.now a.script.now) a.public.now a.script.now a.messages.now a.w.now a.i
     c.sub.result c.after_rounds-claim.result c.bound_of-bound.result c.product_of.result c.mul.result (omega (arith, c.depth.ensures.depth))
-    c.after_rounds-claim.ensures c.bound_of-bound.ensures.value c.product_of.ensures c.mul.ensures c.sub.ensures
+    c.after_rounds-claim.ensures c.bound_of-bound.ensures c.product_of.ensures c.mul.ensures c.sub.ensures
 
 pub returns-then-i-depth-clause-affine : goal.returns-then-i-depth-clause-affine
 returns-then-i-depth-clause-affine g c =

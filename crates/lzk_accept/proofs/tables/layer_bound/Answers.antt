@@ -1,4 +1,4 @@
-use Rattle.std.proofs.Common.{suc, ◌≡◌, ◌+◌, ◌^◌, ◌≤◌, length, sym, ap, ◌∙◌, arith}
+use Rattle.std.proofs.Common.{suc, ◌≡◌, ◌+◌, ◌^◌, ◌≤◌, length, sym, ap, ◌∙◌, arith, subst, ◌<◌}
 use Rattle.std.specs.Prelude.{slice_get}
 use Rattle.lzk_field.specs.Sums.{entry}
 use Rattle.lzk_mle.specs.Multilinear.{eq}
@@ -68,8 +68,8 @@ returns-clause-at g c =
     let is = c.as_slice.ensures ∙ ap (λ x. x.ra) c.layer_of-layer.ensures.layer in
     let is_b = c.as_slice-2.ensures ∙ ap (λ x. x.rb) c.layer_of-layer.ensures.layer in
     record {
-      first = λ k h. c.set_table.ensures.entries k (omega (arith, h, c.width-below.ensures)) ∙ ap (eq o k) is ∙ (let next : suc l ≡ l + 1 = omega arith in ap (λ n. eq o k (point_a o s n)) next);
-      second = λ k h. c.set_table-2.ensures.entries k (omega (arith, h, c.width-below.ensures)) ∙ ap (eq o k) is_b ∙ (let next : suc l ≡ l + 1 = omega arith in ap (λ n. eq o k (point_b o s n)) next);
+      first = λ k h. c.set_table.ensures.entries k (subst (λ n. k < n) (sym c.width-below.ensures) h) ∙ ap (eq o k) is ∙ (let next : suc l ≡ l + 1 = omega arith in ap (λ n. eq o k (point_a o s n)) next);
+      second = λ k h. c.set_table-2.ensures.entries k (subst (λ n. k < n) (sym c.width-below.ensures) h) ∙ ap (eq o k) is_b ∙ (let next : suc l ≡ l + 1 = omega arith in ap (λ n. eq o k (point_b o s n)) next);
     }
 
 pub returns-clause-value : goal.returns-clause-value
@@ -87,9 +87,9 @@ returns-clause-value g c =
     c.sum_terms.ensures ∙ ap (λ ts. sum_list o ts (counted o c.layer_of-layer.result.now.beta weights first second)) c.as_slice-3.ensures
     ∙ ap (λ x. sum_list o layer.terms (counted o x.beta weights first second)) c.layer_of-layer.ensures.layer
     ∙ bound_by_tables o g.F.Field.laws.ring w s l layer weights first second c.valid_laws.ensures c.layer.ensures
-    (λ k h. c.set_weights.ensures.entries k (omega (arith, h, c.width.ensures))
+    (λ k h. c.set_weights.ensures.entries k (subst (λ n. k < n) (sym c.width.ensures) h)
     ∙ ap (λ x. o.plus x (o.times c.layer_of-layer.result.now.alpha (entry o c.args.second.now k))) (c.requires.at.first k h)
     ∙ ap (λ x. o.plus (eq o k (point_a o s l)) (o.times c.layer_of-layer.result.now.alpha x)) (c.requires.at.second k h)
     ∙ ap (λ x. o.plus (eq o k (point_a o s l)) (o.times x.alpha (eq o k (point_b o s l)))) c.layer_of-layer.ensures.layer)
-    (λ k h. c.set_table.ensures.entries k (omega (arith, h, c.width-below.ensures)) ∙ ap (eq o k) ia)
-    (λ k h. c.set_table-2.ensures.entries k (omega (arith, h, c.width-below.ensures)) ∙ ap (eq o k) ib)
+    (λ k h. c.set_table.ensures.entries k (subst (λ n. k < n) (sym c.width-below.ensures) h) ∙ ap (eq o k) ia)
+    (λ k h. c.set_table-2.ensures.entries k (subst (λ n. k < n) (sym c.width-below.ensures) h) ∙ ap (eq o k) ib)

@@ -32,6 +32,24 @@ set_table-requires-2-clause-room g c κs within =
     let e : length c.as_slice-point.result.now ≡ output_bits w = ap length c.as_slice-point.ensures ∙ c.args.scripted.now.shape.out_point in
     omega (arith, ap (λ n. 2 ^ n) e, c.requires.tables.room 0 (omega arith), c.requires.tables.second)
 
+pub layer_bound-requires-clause-layer : goal.layer_bound-requires-clause-layer
+layer_bound-requires-clause-layer g c κs within = subst (λ n. c.loop-l.l < n) c.depth-l-end.ensures.depth c.loop-l-test.true
+
+pub bounds-bounds-l : goal.bounds-bounds-l
+bounds-bounds-l g c = omega (arith, c.depth-l-end.ensures.depth, c.loop-l-test.true, c.loop-l.auto.l-end, c.requires.count, c.loop-l.invariant.bounds_length)
+
+pub returns-clause-weights_length : goal.returns-clause-weights_length
+returns-clause-weights_length g c = c.loop-l.invariant.weights_length
+
+pub returns-clause-first_length : goal.returns-clause-first_length
+returns-clause-first_length g c = c.loop-l.invariant.first_length
+
+pub returns-clause-second_length : goal.returns-clause-second_length
+returns-clause-second_length g c = c.loop-l.invariant.second_length
+
+pub returns-clause-bounds_length : goal.returns-clause-bounds_length
+returns-clause-bounds_length g c = c.loop-l.invariant.bounds_length
+
 pub layer_bound-requires-clause-tables : goal.layer_bound-requires-clause-tables
 layer_bound-requires-clause-tables g c κs within =
     let inv = c.loop-l.invariant in
@@ -54,8 +72,8 @@ loop-l-init g c =
       second_length = c.set_table-2.ensures.length;
       weights_length = refl;
       each = λ i h. absurd (omega (arith, h));
-      first = λ k h. c.set_table.ensures.entries k (omega (arith, h, c.width-outputs.ensures)) ∙ ap (eq o k) c.as_slice-point.ensures;
-      second = λ k h. c.set_table-2.ensures.entries k (omega (arith, h, c.width-outputs.ensures)) ∙ ap (eq o k) c.as_slice-point.ensures;
+      first = λ k h. c.set_table.ensures.entries k (subst (λ n. k < n) (sym c.width-outputs.ensures) h) ∙ ap (eq o k) c.as_slice-point.ensures;
+      second = λ k h. c.set_table-2.ensures.entries k (subst (λ n. k < n) (sym c.width-outputs.ensures) h) ∙ ap (eq o k) c.as_slice-point.ensures;
     }
 
 pub loop-l-preserved : goal.loop-l-preserved
@@ -64,7 +82,7 @@ loop-l-preserved g c =
     let w = c.args.scripted.now.circuit.now in
     let s = c.args.scripted.now.script.now in
     let l = c.loop-l.l in
-    let h : l < depth w = omega (arith, c.depth-l-end.ensures.depth, c.loop-l-test.true, c.loop-l.auto.l-end) in
+    let h : l < depth w = subst (λ n. c.loop-l.l < n) c.depth-l-end.ensures.depth c.loop-l-test.true in
     let inv = c.loop-l.invariant in
     let e = c.layer_bound.ensures in
     record {

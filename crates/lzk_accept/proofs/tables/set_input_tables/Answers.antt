@@ -1,4 +1,4 @@
-use Rattle.std.proofs.Common.{◌≡◌, ◌^◌, length, ap, ◌∙◌, arith}
+use Rattle.std.proofs.Common.{◌≡◌, ◌^◌, length, ap, ◌∙◌, arith, subst, ◌<◌, sym}
 use Rattle.lzk_mle.specs.Multilinear.{eq}
 use Rattle.lzk_circuit.specs.Bits.{bits}
 use Rattle.lzk_circuit.proofs.BitLaws.{bits_enough}
@@ -35,6 +35,6 @@ returns-clause-at g c =
     let first = c.points_on.ensures.first ∙ ap (point_a o c.args.scripted.now.script.now) c.depth-depth.ensures.depth in
     let second = c.points_on.ensures.second ∙ ap (point_b o c.args.scripted.now.script.now) c.depth-depth.ensures.depth in
     record {
-      first = λ k h. c.set_table.ensures.entries k (omega (arith, h, c.width-inputs.ensures, ap (width_at w) c.depth-depth.ensures.depth)) ∙ ap (eq o k) first;
-      second = λ k h. c.set_table-2.ensures.entries k (omega (arith, h, c.width-inputs.ensures, ap (width_at w) c.depth-depth.ensures.depth)) ∙ ap (eq o k) second;
+      first = λ k h. c.set_table.ensures.entries k (subst (λ n. k < n) (sym (c.width-inputs.ensures ∙ ap (width_at w) c.depth-depth.ensures.depth)) h) ∙ ap (eq o k) first;
+      second = λ k h. c.set_table-2.ensures.entries k (subst (λ n. k < n) (sym (c.width-inputs.ensures ∙ ap (width_at w) c.depth-depth.ensures.depth)) h) ∙ ap (eq o k) second;
     }

@@ -1,6 +1,7 @@
-use Rattle.std.proofs.Common.{◌+◌, length, drop, ap, ◌∙◌, sym, ◌∷◌, subst}
+use Rattle.std.proofs.Common.{◌+◌, length, drop, ap, ◌∙◌, sym, ◌∷◌, subst, arith}
 use Rattle.std.specs.Prelude.{None, true, false}
 use Rattle.std.proofs.lemmas.List.{drop_more, drop_all}
+use Rattle.lzk_field.proofs.RingBasics.{zero_plus}
 use Rattle.lzk_circuit.specs.Sums.{sum_list}
 use Rattle.lzk_circuit.specs.Wires.{AreDistinct}
 use Rattle.lzk_circuit.proofs.OrderLaws.{placed-distinct}
@@ -8,6 +9,20 @@ use Rattle.lzk_sumcheck.specs.Points.{point}
 use Rattle.lzk_sumcheck.specs.Rounds.{every_other}
 use Rattle.lzk_sumcheck.proofs.PointLaws.{term_value, terms-sum, terms_drop, list-step}
 use Rattle.lzk_sumcheck.proofs.plain.coefficient_part.Goals as goal
+
+pub loop-i-init : goal.loop-i-init
+loop-i-init g c =
+    let m = g.F.Field in
+    let o = m.ops in
+    let x = point o c.args.on.now.bits c.args.on.now.bound.now c.args.on.now.t c.args.on.now.z in
+    let s = sum_list o c.args.terms.now (term_value o m.laws.ring c.args.beta c.args.weights.now (every_other true x) (every_other false x)) in
+    ap (λ y. o.plus y s) c.zero-total.ensures ∙ zero_plus o m.laws.ring s
+
+pub offset_bounds-terms-i : goal.offset_bounds-terms-i
+offset_bounds-terms-i g c = omega (arith, c.loop-i-test.true)
+
+pub bounds-terms-i : goal.bounds-terms-i
+bounds-terms-i g c = c.loop-i-test.true
 
 pub term_part-requires-after_bounds : goal.term_part-requires-after_bounds
 term_part-requires-after_bounds g c = λ κs within.

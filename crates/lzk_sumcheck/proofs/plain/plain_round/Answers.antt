@@ -11,6 +11,20 @@ use Rattle.lzk_sumcheck.specs.Rounds as rounds
 use Rattle.lzk_sumcheck.proofs.LayerShapes.{values_width, terms_is, terms_placed}
 use Rattle.lzk_sumcheck.proofs.plain.plain_round.Goals as goal
 
+pub width-requires-after_bounds : goal.width-requires-after_bounds
+width-requires-after_bounds g c κs within = omega (arith, c.requires.layer)
+
+pub layer-requires-after_bounds : goal.layer-requires-after_bounds
+layer-requires-after_bounds g c κs within = c.requires.layer
+
+pub plain_sum-requires-clause-few : goal.plain_sum-requires-clause-few
+plain_sum-requires-clause-few g c κs within = c.bits_of-bits.ensures.few
+
+pub plain_sum-requires-clause-free : goal.plain_sum-requires-clause-free
+plain_sum-requires-clause-free g c κs within =
+    let few : c.bits_of-bits.result ≡ bits_under c.args.circuit.now c.args.l = c.bits_of-bits.ensures.bits ∙ ap bits c.width.ensures in
+    omega (arith, few, c.requires.free)
+
 pub bits_of-bits-requires : goal.bits_of-bits-requires
 bits_of-bits-requires g c = omega (arith, c.width.ensures, narrow g.F.Field.ops c.args.circuit.now (c.args.l + 1) c.valid_laws.ensures)
 

@@ -8,6 +8,30 @@ use Rattle.lzk_sumcheck.specs.Rounds.{at}
 use Rattle.lzk_sumcheck.proofs.PointLaws.{round-sum}
 use Rattle.lzk_sumcheck.proofs.plain.plain_sum.Goals as goal
 
+pub overflow_sub-z-end : goal.overflow_sub-z-end
+overflow_sub-z-end g c = omega (arith, c.requires.free)
+
+pub overflow_sub-z-end-2 : goal.overflow_sub-z-end-2
+overflow_sub-z-end-2 g c = omega (arith, c.requires.free)
+
+pub overflow_shl-z-end : goal.overflow_shl-z-end
+overflow_shl-z-end g c = omega (arith, c.requires.few)
+
+pub loop-z-init : goal.loop-z-init
+loop-z-init g c = c.zero-total.ensures
+
+pub invariant_of-on : goal.invariant_of-on
+invariant_of-on g c = record { few = c.requires.few; free = c.requires.free }
+
+pub coefficient_part-coefficient-requires-after_bounds : goal.coefficient_part-coefficient-requires-after_bounds
+coefficient_part-coefficient-requires-after_bounds g c κs within = c.requires.terms
+
+pub tilde_part-first-requires-after_bounds : goal.tilde_part-first-requires-after_bounds
+tilde_part-first-requires-after_bounds g c κs within = c.requires.size
+
+pub tilde_part-second-requires-after_bounds : goal.tilde_part-second-requires-after_bounds
+tilde_part-second-requires-after_bounds g c κs within = c.requires.size
+
 pub returns : goal.returns
 returns g c =
     let m = g.F.Field in

@@ -2,7 +2,7 @@ use Rattle.std.proofs.Common.{◌≡◌, ◌<◌, length, sym, ap, ◌∙◌, ar
 use Rattle.std.proofs.lemmas.List.{get_or_default}
 use Rattle.std.proofs.lemmas.Option.{slice_get-get_or}
 use Rattle.lzk_layout.specs.Places.{depth, bits_under, sent_at}
-use Rattle.lzk_sumcheck.specs.Script.{HasBits, zero_layer, layer_script, after_layer}
+use Rattle.lzk_sumcheck.specs.Script.{HasBits, zero_layer, layer_script, after_layer, after_layers}
 use Rattle.lzk_sumcheck.proofs.LayerLaws.{AreReplayed, replayed_none, replayed_more, replayed_whole}
 use Rattle.lzk_sumcheck.proofs.replaying.replay_layers.Goals as goal
 
@@ -14,6 +14,27 @@ loop-l-init g c =
       within = λ h. c.first-places.ensures.within;
       layers = replayed_none f.ops f.coding c.args.messages.now c.args.circuit.now c.args.tape.now c.args.layers.now;
     }
+
+pub bounds-layers-l : goal.bounds-layers-l
+bounds-layers-l g c = omega (arith, c.requires.depth, c.depth-l-end.ensures.depth, c.loop-l-test.true, c.loop-l.auto.layers)
+
+pub replay_layer-requires-clause-messages : goal.replay_layer-requires-clause-messages
+replay_layer-requires-clause-messages g c κs within =
+    let places = c.loop-l.invariant.places in
+    let last = c.loop-l.invariant.within (subst (λ n. c.loop-l.l < n) c.depth-l-end.ensures.depth c.loop-l-test.true) in
+    omega (arith, ap (λ p. p.factors_sent) places, ap (λ p. p.messages) places, ap (λ p. p.bits) places, last.sent, c.requires.messages)
+
+pub next-places-requires-clause-layer : goal.next-places-requires-clause-layer
+next-places-requires-clause-layer g c κs within = subst (λ n. c.loop-l.l < n) c.depth-l-end.ensures.depth c.loop-l-test.true
+
+pub next-places-requires-clause-places : goal.next-places-requires-clause-places
+next-places-requires-clause-places g c κs within = c.loop-l.invariant.places
+
+pub returns-clause-after : goal.returns-clause-after
+returns-clause-after g c =
+    let f = g.F.Field in
+    let all : c.loop-l.l ≡ depth c.args.circuit.now = omega (arith, c.loop-l-test.false, c.loop-l.auto.l-end, c.depth-l-end.ensures.depth) in
+    c.loop-l.invariant.layers.tape ∙ ap (λ l. after_layers f.ops f.coding c.args.messages.now c.args.circuit.now l c.args.tape.now) all
 
 pub replay_layer-requires-clause-bits : goal.replay_layer-requires-clause-bits
 replay_layer-requires-clause-bits g c κs within =

@@ -2,6 +2,8 @@ use Rattle.std.proofs.Common.{◌≡◌, ◌+◌, ◌*◌, length, ap, sym, ◌�
 use Rattle.std.proofs.lemmas.Nat.{mul-add-lt}
 use native.Mathlib.Decide.{dec_lt}
 use Rattle.lzk_field.specs.Sums.{entry}
+use Rattle.std.proofs.Common.{◌≤◌, refl}
+use Rattle.std.proofs.lemmas.Nat.{mul-le}
 use Rattle.lzk_verify.proofs.weighted.weigh_table.Goals as goal
 
 pub loop-i-preserved : goal.loop-i-preserved
@@ -22,3 +24,20 @@ loop-i-preserved g c =
       ],
       λ k h. c.weigh_row.ensures.behind k (omega (arith, next, h)) ∙ before.2 k (omega (arith, next, h)),
     )
+
+pub loop-i-init : goal.loop-i-init
+loop-i-init g c = (refl, λ j s h. absurd (omega (arith, h)), λ k h. refl)
+
+pub weigh_row-requires-after_bounds : goal.weigh_row-requires-after_bounds
+weigh_row-requires-after_bounds g c κs within =
+    let width = length c.args.own.now in
+    let i = c.loop-i.i in
+    let next : (i + 1) * width ≡ i * width + width = omega arith in
+    let rows : (i + 1) * width ≤ c.args.count * width = mul-le (i + 1) width c.args.count width (omega (arith, c.loop-i-test.true)) (omega arith) in
+    omega (arith, next, rows, c.loop-i.invariant.0, c.requires)
+
+pub returns-clause-length : goal.returns-clause-length
+returns-clause-length g c = c.loop-i.invariant.0
+
+pub returns-clause-each : goal.returns-clause-each
+returns-clause-each g c = λ i s h q. c.loop-i.invariant.1 i s (omega (arith, h, c.loop-i-test.false)) q

@@ -7,10 +7,10 @@ pub invariant_of-result : goal.invariant_of-result
 invariant_of-result g c =
     let f = g.F.Field in
     let plan = c.of-plan in
-    new_parts f.ops f.coding plan.result.circuit.now plan.result.params c.args.id c.new-cursor.result c.in_ok-intake.intake c.in_ok-room.room
+    new_parts f.ops f.coding plan.result.circuit.now plan.result.params c.args.id c.new-cursor.result c.in-Ok.intake c.in-Ok-new.room
     plan.ensures.valid (c.requires.id ∙ ap (λ w. id_of f.coding w) (sym plan.ensures.circuit)) c.new-cursor.ensures.params
-    c.in_ok-intake.ensures.public c.in_ok-intake.ensures.script c.in_ok-intake.ensures.lists c.in_ok-intake.ensures.drawn
-    c.in_ok-room.ensures.forms c.in_ok-room.ensures.factors c.in_ok-room.ensures.rooms
+    c.in-Ok.ensures.public c.in-Ok.ensures.script c.in-Ok.ensures.lists c.in-Ok.ensures.drawn
+    c.in-Ok-new.ensures.forms c.in-Ok-new.ensures.factors c.in-Ok-new.ensures.rooms
 
 pub returns-clause-idle : goal.returns-clause-idle
 returns-clause-idle g c =

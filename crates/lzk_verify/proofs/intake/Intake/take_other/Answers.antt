@@ -11,6 +11,13 @@ use Rattle.lzk_verify.proofs.TakingColumns.{stored_nonce, stored_element, stored
 use Rattle.lzk_verify.proofs.SentPlaces.{field_all, field_element, element_small}
 use Rattle.lzk_verify.proofs.TakingFirst.{stored_first}
 use Rattle.lzk_verify.proofs.TakingOther.{taken}
+use Rattle.lzk_profile.specs.Profile.{most_digests}
+use Rattle.std.proofs.Common.{◌+◌, ◌≤◌, length}
+use Rattle.std.specs.Vec.{with_item}
+use Rattle.std.proofs.lemmas.List.{length-set}
+use Rattle.lzk_layout.specs.Parts.{HasPart}
+use Rattle.lzk_verify.specs.Desk.{Rooms, IsSound}
+use Rattle.lzk_verify.proofs.SoundSteps.{sound_stays}
 use Rattle.lzk_verify.proofs.intake.Intake.take_other.Goals as goal
 
 pub returns-in-Magic-clause-kept : goal.returns-in-Magic-clause-kept
@@ -123,3 +130,89 @@ element_of-requires-after_bounds g c κs within =
     let e = g.F.Field.coding in
     let whole = subst (λ x. IsWholeField (shape e.bytes e.size) c.args.plan.now.params x c.args.block.now c.args.width) c.in-Column.is c.requires.whole in
     element_small e.bytes e.size c.args.width c.args.block.now whole.passes
+
+pub index_mut-requires : goal.index_mut-requires
+index_mut-requires g c =
+    let has = subst (HasPart c.args.plan.now.params most_digests) c.in-Column.is c.requires.whole.has in
+    let column = c.args.self.now.column in
+    omega (arith, has.1, c.requires.sound.lists.column, column.ok.0)
+
+pub index_mut-requires-in-Digest : goal.index_mut-requires-in-Digest
+index_mut-requires-in-Digest g c =
+    let has = subst (HasPart c.args.plan.now.params most_digests) c.in-Digest.is c.requires.whole.has in
+    let digests = c.args.self.now.digests in
+    omega (arith, has, c.requires.sound.lists.digests, digests.ok.0)
+
+pub check-requires-clause-lists : goal.check-requires-clause-lists
+check-requires-clause-lists g c κs within =
+    let f = g.F.Field in
+    let k = c.args.self.now in
+    let s = c.requires.sound in
+    (sound_stays f.ops f.coding.element c.args.plan.now.circuit.now c.args.plan.now.params k (record k { column = with_item k.column c.in-Column.i c.element_of.result }) c.args.room.now s refl refl refl refl refl
+    (length-set k.column.items c.in-Column.i c.element_of.result) refl refl refl s.lists.few).lists
+
+pub check-requires-clause-rooms : goal.check-requires-clause-rooms
+check-requires-clause-rooms g c κs within = c.requires.sound.rooms
+
+pub check-requires-clause-inside : goal.check-requires-clause-inside
+check-requires-clause-inside g c κs within = (subst (HasPart c.args.plan.now.params most_digests) c.in-Column.is c.requires.whole.has).0
+
+pub returns-in-Magic-clause-sound : goal.returns-in-Magic-clause-sound
+returns-in-Magic-clause-sound g c = c.requires.sound
+
+pub returns-in-Id-clause-sound : goal.returns-in-Id-clause-sound
+returns-in-Id-clause-sound g c =
+    let f = g.F.Field in
+    let k = c.args.self.now in
+    let s = c.requires.sound in
+    sound_stays f.ops f.coding.element c.args.plan.now.circuit.now c.args.plan.now.params k (record k { id = c.args.block.now }) c.args.room.now s refl refl refl refl refl refl refl refl refl s.lists.few
+
+pub returns-in-Root-clause-sound : goal.returns-in-Root-clause-sound
+returns-in-Root-clause-sound g c =
+    let f = g.F.Field in
+    let k = c.args.self.now in
+    let s = c.requires.sound in
+    sound_stays f.ops f.coding.element c.args.plan.now.circuit.now c.args.plan.now.params k (record k { root = c.args.block.now }) c.args.room.now s refl refl refl refl refl refl refl refl refl s.lists.few
+
+pub returns-in-Nonce-clause-sound : goal.returns-in-Nonce-clause-sound
+returns-in-Nonce-clause-sound g c =
+    let f = g.F.Field in
+    let k = c.args.self.now in
+    let s = c.requires.sound in
+    sound_stays f.ops f.coding.element c.args.plan.now.circuit.now c.args.plan.now.params k (record k { nonce = c.args.block.now }) c.args.room.now s refl refl refl refl refl refl refl refl refl s.lists.few
+
+pub returns-then-i-plan-clause-sound : goal.returns-then-i-plan-clause-sound
+returns-then-i-plan-clause-sound g c =
+    let f = g.F.Field in
+    let k = c.args.self.now in
+    let s = c.requires.sound in
+    let new = c.check.new.self in
+    let others = c.check.ensures.others in
+    subst (λ (r : Rooms g.row.F.Denot). IsSound f.ops f.coding.element c.args.plan.now.circuit.now c.args.plan.now.params new r) (sym c.check.ensures.room)
+    (sound_stays f.ops f.coding.element c.args.plan.now.circuit.now c.args.plan.now.params k new c.args.room.now s
+    (ap (λ (x : Intake g.row.F.Denot). x.public.items) others) (ap (λ (x : Intake g.row.F.Denot). x.is_drawn) others) (ap (λ (x : Intake g.row.F.Denot). x.sent.items) others)
+    (ap (λ (x : Intake g.row.F.Denot). x.drawn) others) (ap (λ (x : Intake g.row.F.Denot). x.wanted) others)
+    (ap (λ (x : Intake g.row.F.Denot). length x.column.items) others ∙ length-set k.column.items c.in-Column.i c.element_of.result)
+    (ap length c.check.ensures.leaf ∙ length-set k.leaves.items c.in-Column.k _) c.check.ensures.rows
+    (ap (λ (x : Intake g.row.F.Denot). length x.digests.items) others) (subst (λ n. n ≤ most_digests) (sym (ap (λ (x : Intake g.row.F.Denot). x.count) others)) s.lists.few))
+
+pub returns-else-i-plan-clause-sound : goal.returns-else-i-plan-clause-sound
+returns-else-i-plan-clause-sound g c =
+    let f = g.F.Field in
+    let k = c.args.self.now in
+    let s = c.requires.sound in
+    sound_stays f.ops f.coding.element c.args.plan.now.circuit.now c.args.plan.now.params k (record k { column = with_item k.column c.in-Column.i c.element_of.result }) c.args.room.now s refl refl refl refl refl
+    (length-set k.column.items c.in-Column.i c.element_of.result) refl refl refl s.lists.few
+
+pub returns-in-Count-clause-sound : goal.returns-in-Count-clause-sound
+returns-in-Count-clause-sound g c = c.requires.sound
+
+pub returns-in-Digest-clause-sound : goal.returns-in-Digest-clause-sound
+returns-in-Digest-clause-sound g c =
+    let f = g.F.Field in
+    let k = c.args.self.now in
+    let s = c.requires.sound in
+    let i = c.in-Digest.i in
+    let has = subst (HasPart c.args.plan.now.params most_digests) c.in-Digest.is c.requires.whole.has in
+    sound_stays f.ops f.coding.element c.args.plan.now.circuit.now c.args.plan.now.params k (record k { count = i + 1; digests = with_item k.digests i c.args.block.now }) c.args.room.now s refl refl refl refl refl refl refl refl
+    (length-set k.digests.items i c.args.block.now) (omega (arith, has))
