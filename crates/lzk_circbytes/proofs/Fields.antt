@@ -90,11 +90,3 @@ constants_take shape count bytes x fits e = many_takes as_last (constant_at shap
 pub constants_again : (shape : Shape) → shape.size ≤ 256 ^ shape.bytes → (cs : List ℕ) (rest : List ℕ) → AreConstants shape 0 cs → constants_at shape (length cs) (constants_bytes shape cs ++ rest) ≡ Ok (cs, rest)
 unfolding constants_bytes
 constants_again shape room cs rest fits = many_again as_last (constant_at shape) (λ before c. bytes_of shape.bytes c) (FitsConstant shape) (constant_again shape room) cs 0 rest fits
-
--- a constant that does not rise
-pub constant_low : (shape : Shape) (before : ℕ) (bytes : List ℕ) → shape.bytes ≤ length bytes → number_from (take shape.bytes bytes) ≤ before → constant_at shape before bytes ≡ stops Constant bytes
-unfolding constant_at
-constant_low shape before bytes long low =
-    let whole : ltb (length bytes) shape.bytes ≡ false = le-ltb (length bytes) shape.bytes long in
-    let falls : ltb before (number_from (take shape.bytes bytes)) ≡ false = le-ltb before (number_from (take shape.bytes bytes)) low in
-    rw (whole, falls) refl

@@ -13,6 +13,7 @@ pub mod Marking
 pub mod Bodies
 pub mod Bounds
 pub mod Whole
+pub mod ReadSteps
 pub mod Recent
 pub mod Written
 pub mod Absorbing

@@ -19,7 +19,7 @@ use Rattle.lzk_circuit.specs.declared.layer.Term.{Term}
 use Rattle.lzk_circuit.specs.declared.layer.Layer.{Layer}
 use Rattle.lzk_circuit.specs.Valid.{under_of, Wiring, input_width, AreLayersOf, IsValid}
 use Rattle.lzk_circuit.proofs.VersionLaws.{layers-two}
-use Rattle.lzk_circbytes.specs.Numbered.{Shape, shape, numbered_term, numbered_layer, numbered, coefficients, nonzero, coefs_of, zeros_of, ascending, constants_of}
+use Rattle.lzk_circbytes.specs.Numbered.{Shape, shape, numbered_term, numbered_layer, numbered, coefficients, nonzero, coefs_of, ascending, constants_of}
 use Rattle.lzk_circbytes.specs.Reading.{as_before}
 use Rattle.lzk_circbytes.specs.Spelling.{file_bytes, file_of, constants_bytes, layers_bytes}
 use Rattle.lzk_circbytes.specs.Fits.{FitAlong, FitsTerm, CanWrite, CanWriteLayers, head_bytes}
@@ -85,20 +85,19 @@ can_write cs wires below before [] h = tt
 can_write cs wires below before (t ∷ ts) h = (record { rising = h.0.rising; a = h.0.a; number = h.0.number }, can_write cs wires below (Some t) ts h.1)
 
 -- the parts before the layers, one after the other
-pub head_assembled : (s : Shape) (w : Wiring ℕ) (cs o o0 o1 o2 o3 o4 o5 o6 o7 : List ℕ) → o0 ≡ o ++ 76 ∷ file_letter ∷ 67 ∷ [] → o1 ≡ o0 ++ (48 + w.version) ∷ [] → o2 ≡ o1 ++ s.id ∷ [] → o3 ≡ o2 ++ to_le_bytes w32 w.publics → o4 ≡ o3 ++ to_le_bytes w32 w.privates
-    → o5 ≡ o4 ++ to_le_bytes w32 (length w.layers) → o6 ≡ o5 ++ to_le_bytes w32 (length cs) → o7 ≡ o6 ++ constants_bytes s cs → o7 ≡ o ++ head_bytes s w cs
-head_assembled s w cs o o0 o1 o2 o3 o4 o5 o6 o7 e0 e1 e2 e3 e4 e5 e6 e7 =
+pub head_assembled : (s : Shape) (w : Wiring ℕ) (cs o o0 o1 o2 o3 o4 o5 : List ℕ) → o0 ≡ o ++ 76 ∷ file_letter ∷ 67 ∷ (48 + w.version) ∷ s.id ∷ [] → o1 ≡ o0 ++ to_le_bytes w32 w.publics → o2 ≡ o1 ++ to_le_bytes w32 w.privates
+    → o3 ≡ o2 ++ to_le_bytes w32 (length w.layers) → o4 ≡ o3 ++ to_le_bytes w32 (length cs) → o5 ≡ o4 ++ constants_bytes s cs → o5 ≡ o ++ head_bytes s w cs
+head_assembled s w cs o o0 o1 o2 o3 o4 o5 e0 e1 e2 e3 e4 e5 =
+    let m : List ℕ = 76 ∷ file_letter ∷ 67 ∷ (48 + w.version) ∷ s.id ∷ [] in
     let a = to_le_bytes w32 w.publics in
     let b = to_le_bytes w32 w.privates in
     let c = to_le_bytes w32 (length w.layers) in
     let d = to_le_bytes w32 (length cs) in
     let k = constants_bytes s cs in
-    let whole : o7 ≡ ((((((o ++ 76 ∷ file_letter ∷ 67 ∷ (48 + w.version) ∷ []) ++ s.id ∷ []) ++ a) ++ b) ++ c) ++ d) ++ k =
-    e7 ∙ ap (λ (x : List ℕ). x ++ k) (e6 ∙ ap (λ (x : List ℕ). x ++ d) (e5 ∙ ap (λ (x : List ℕ). x ++ c) (e4 ∙ ap (λ (x : List ℕ). x ++ b) (e3 ∙ ap (λ (x : List ℕ). x ++ a) (e2 ∙ ap (λ (x : List ℕ). x ++ s.id ∷ []) (e1 ∙ ap (λ (x : List ℕ). x ++ (48 + w.version) ∷ []) e0 ∙ append_assoc o (76 ∷ file_letter ∷ 67 ∷ []) ((48 + w.version) ∷ []))))))) in
-    whole ∙ regroup o (76 ∷ file_letter ∷ 67 ∷ (48 + w.version) ∷ []) (s.id ∷ []) a b c d k
+    e5 ∙ ap (λ (x : List ℕ). x ++ k) (e4 ∙ ap (λ (x : List ℕ). x ++ d) (e3 ∙ ap (λ (x : List ℕ). x ++ c) (e2 ∙ ap (λ (x : List ℕ). x ++ b) (e1 ∙ ap (λ (x : List ℕ). x ++ a) e0)))) ∙ regroup o m a b c d k
   where
-    regroup : (o' m' i' a' b' c' d' k' : List ℕ) → ((((((o' ++ m') ++ i') ++ a') ++ b') ++ c') ++ d') ++ k' ≡ o' ++ (m' ++ (i' ++ (a' ++ (b' ++ (c' ++ (d' ++ k'))))))
-    regroup o' m' i' a' b' c' d' k' = simp append_assoc
+    regroup : (o' m' a' b' c' d' k' : List ℕ) → (((((o' ++ m') ++ a') ++ b') ++ c') ++ d') ++ k' ≡ o' ++ (m' ++ (a' ++ (b' ++ (c' ++ (d' ++ k')))))
+    regroup o' m' a' b' c' d' k' = simp append_assoc
 
 -- a file is what stands before the layers, and the layers
 pub file_parts : (s : Shape) (w : Wiring ℕ) (cs : List ℕ) → head_bytes s w cs ++ layers_bytes (coefs_of w.version cs) 0 (reverse w.layers) ≡ file_bytes s w cs

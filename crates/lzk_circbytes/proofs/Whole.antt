@@ -16,7 +16,7 @@ use Rattle.lzk_circbytes.specs.Reading.{Stop, ◌>>=◌, stops, wiring_at}
 use Rattle.lzk_circbytes.specs.Spelling.{tail_bytes}
 use Rattle.lzk_circbytes.specs.Files.{IsFile, goldilocks, gf128, CircuitBytes, id_of_any, begins_with, field_at, circuit_at, CircuitFaultAt, OneCircuit, OneFile, NoFault}
 use Rattle.lzk_circbytes.specs.Answers.{numbers_of, IsValidCircuit}
-use Rattle.lzk_circbytes.proofs.Steps.{IsBytes, IsBytes-rest, from, not_refused, passed}
+use Rattle.lzk_circbytes.proofs.Steps.{IsBytes, IsBytes-rest, from, not_refused}
 use Rattle.lzk_circbytes.proofs.Bounds.{fault_within}
 use Rattle.lzk_circbytes.proofs.Wirings.{wiring_take}
 use Rattle.lzk_circbytes.proofs.FileLaws.{same_numbers, file_is, wiring_read, file_from_read}

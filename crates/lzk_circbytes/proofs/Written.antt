@@ -1,6 +1,7 @@
 -- What is written, as a loop does it.
 use Rattle.std.proofs.Common.{◌≡◌, ◌⊎◌, inl, inr, map, reverse, drop-cons, get_or, Ok, Err, ℕ, zero, suc, ◌+◌, ◌-◌, ◌<◌, ◌≤◌, List, [], ◌∷◌, ◌++◌, length, drop, Option, None, Some, ◌/◌, ◌%◌, ◌^◌, refl, sym, ap, subst, ◌∙◌, append_assoc, arith, slice_index}
 use Rattle.std.specs.Prelude.{slice_get}
+use Rattle.std.specs.Int.{w32, to_le_bytes}
 use Rattle.std.specs.Ordering.{nat_cmp}
 use Rattle.std.specs.List.Sorted.{IsStrictlyIncreasing, IsBinarySearchResult}
 use Rattle.std.proofs.lemmas.List.{append-nil, length-map, drop_all}
@@ -32,6 +33,19 @@ pub record TermsLeft (cs : List ℕ) (g : ℕ) (left : List (Term ℕ)) (now sta
 pub terms_begin : (cs start : List ℕ) (terms : List (Term ℕ)) → FitAlong as_before (CanWrite cs) None terms → TermsLeft cs 0 terms start start terms
 terms_begin cs start terms fit = record { before = None; wire = refl; fit = fit; written = refl }
 
+-- what lets the next term be written behind wire g
+pub record IsNext (cs : List ℕ) (g : ℕ) (t : Term ℕ) : Type 0 where
+  pub rising : g ≤ t.g
+  pub a : t.a ≤ t.b
+  pub number : index_of cs t.coef < length cs
+
+pub next_left : {A : Type 0} (view : Term A → Term ℕ) (cs : List ℕ) (g : ℕ) (ts : List (Term A)) (i : ℕ) (t : Term A) (now start : List ℕ) → i < length ts → t ≡ get_or ts i t → TermsLeft cs g (map view (drop i ts)) now start (map view ts) → IsNext cs g (view t)
+next_left view cs g ts i t now start lt is left =
+    let parts : drop i ts ≡ t ∷ drop (suc i) ts = drop-cons ts i t lt ∙ ap (λ x. x ∷ drop (suc i) ts) (sym is) in
+    let h = subst (λ (us : List (Term _)). TermsLeft cs g (map view us) now start (map view ts)) parts left in
+    let can = h.fit.0 in
+    record { rising = omega (arith, can.rising, h.wire); a = can.a; number = can.number }
+
 -- one more term
 pub terms_go_on : (cs : List ℕ) (g : ℕ) (t : Term ℕ) (left : List (Term ℕ)) (now start next : List ℕ) (terms : List (Term ℕ)) → TermsLeft cs g (t ∷ left) now start terms
     → next ≡ (((now ++ varint (t.g - g)) ++ varint t.a) ++ varint (t.b - t.a)) ++ varint (index_of cs t.coef) → TermsLeft cs t.g left next start terms
@@ -53,6 +67,16 @@ terms_go_on cs g t left now start next terms h e = record {
 pub terms_end : (cs : List ℕ) (g : ℕ) (now start : List ℕ) (terms : List (Term ℕ)) → TermsLeft cs g [] now start terms → now ≡ start ++ spells as_before (term_bytes cs) None terms
 unfolding spells
 terms_end cs g now start terms h = sym (append-nil now) ∙ h.written
+
+-- a layer's counts and terms, one behind the other
+pub layer_written : (cs : List ℕ) (u : Under) (layer : Layer ℕ) (old one two three : List ℕ) → one ≡ old ++ to_le_bytes w32 layer.wires → two ≡ one ++ to_le_bytes w32 (length layer.terms)
+    → three ≡ two ++ spells as_before (term_bytes cs) None layer.terms → three ≡ old ++ layer_bytes cs u layer
+unfolding layer_bytes
+layer_written cs u layer old one two three e1 e2 e3 =
+    let a = to_le_bytes w32 layer.wires in
+    let b = to_le_bytes w32 (length layer.terms) in
+    let ts = spells as_before (term_bytes cs) None layer.terms in
+    e3 ∙ ap (λ (x : List ℕ). x ++ ts) (e2 ∙ ap (λ (x : List ℕ). x ++ b) e1) ∙ append_assoc (old ++ a) b ts ∙ append_assoc old a (b ++ ts)
 
 -- ---- varints and constants
 

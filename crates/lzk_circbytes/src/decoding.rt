@@ -109,7 +109,6 @@ fn file_of(alloc: Global, bytes: &[u8]) -> Result<AnyCircuit, ReadError>
 }
 
 /// The circuit whose file the bytes are. Want of memory may come at any time.
-#[tactic(auto, using(crate::proofs::Whole::one_circuit, crate::proofs::Whole::one_file, crate::proofs::Whole::no_fault, crate::proofs::Sizes::files_fit))]
 pub fn decode(alloc: Global, bytes: &[u8]) -> Result<AnyCircuit, DecodeError>
     ensures circuit { IfOk result (λ c. CircuitBytes c bytes.now) }
     ensures fault { IfErr result (IsFirstFault bytes.now) }

@@ -86,15 +86,12 @@ fn push_head<F: Field>(
     ensures { OnOk result (out.new.items ≡ out.old.items ++ head_bytes (shape F.coding.id F.coding.bytes F.coding.size)
         (numbered F.coding.number circuit.now) constants.now) }
 {
-    out.extend_from_slice(&[b'L', FILE_LETTER, b'C'])?;
-    out.push(48 + circuit.version())?;
-    out.push(F::ID)?;
+    out.extend_from_slice(&[b'L', FILE_LETTER, b'C', 48 + circuit.version(), F::ID])?;
     push_word(out, circuit.publics())?;
     push_word(out, circuit.privates())?;
     push_word(out, circuit.depth())?;
     push_word(out, constants.len() as u32)?;
-    push_constants::<F>(out, constants)?;
-    Ok(())
+    push_constants::<F>(out, constants)
 }
 
 /// All that stands before the layers, where these are the numbers of the circuit's coefficients.

@@ -74,7 +74,7 @@ pub enum DecodeError {
 }
 
 /// The first check that failed, with how many bytes are left from its field on.
-#[derive(Debug, Drop)]
+#[derive(Drop)]
 pub(crate) enum ReadError {
     Stops(usize, ByteKind),
     OutOfMemory,

@@ -316,14 +316,9 @@ fn layer_of<'a, F: Field>(
         Marks (map F.coding.number coefs.now.list.now) (is_in_terms (map (numbered_term F.coding.number) x.0.terms))
         used.old used.new) }
 {
-    let (wires, at_count) = word_of(bytes)?;
-    if wires < 1 || wires > MOST_WIRES || wires > MOST_IN_ALL - below.wires {
-        return Err(stop(ByteKind::Limit, bytes));
-    }
-    let (count, rest) = word_of(at_count)?;
-    if count > MOST_IN_ALL - below.terms {
-        return Err(stop(ByteKind::Limit, at_count));
-    }
+    let most = MOST_WIRES.min(MOST_IN_ALL - below.wires);
+    let (wires, at_count) = limited_of(1, most, bytes)?;
+    let (count, rest) = limited_of(0, MOST_IN_ALL - below.terms, at_count)?;
     let (terms, rest) = terms_of(alloc, coefs, wires, below.width, count, used, rest)?;
     let terms = Terms::new(terms);
     Ok((Layer { wires, terms }, rest))

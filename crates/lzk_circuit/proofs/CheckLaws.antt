@@ -20,7 +20,7 @@ use Rattle.lzk_circuit.specs.Valid.{Wiring, input_width, under_of, IsPlaced, Are
 use Rattle.lzk_circuit.specs.Wires.{coef, zero_of, zero_at, wire, wires_of, layer_values, all_values, list_at, IsFirstNonzero}
 use Rattle.lzk_circuit.proofs.AssertLaws.{again, zeros, zeros-at, zeros-distinct, zero_of-zero, zero_of-other, wire-ext}
 use Rattle.lzk_circuit.proofs.LayerLaws.{walk-step}
-use Rattle.lzk_circuit.proofs.DepthLaws.{items_of, wires-width, first-values}
+use Rattle.lzk_circuit.proofs.DepthLaws.{nothing, items_of, wires-width, first-values}
 use Rattle.lzk_circuit.proofs.OrderLaws.{Before, AllAfter, before_from, all_after, placed-at, placed-distinct, terms-placed, term-at}
 use Rattle.lzk_circuit.proofs.ValidLaws.{zero-only}
 use Rattle.lzk_circuit.proofs.VersionLaws.{layers-two}
@@ -44,6 +44,9 @@ module _ {A : Type 0} (number : A → ℕ) where
       ap (map (λ t. t.g)) (filter_more (is_assertion number) ts i t l ∙ ap (λ (x : Term A). filter (is_assertion number) (take i ts) ++ cond (is_assertion number x) (x ∷ []) []) (sym is)
       ∙ ap (λ b. filter (is_assertion number) (take i ts) ++ cond b (t ∷ []) []) (ne_eqb (number t.coef) 0 n))
       ∙ map-append (λ t. t.g) (filter (is_assertion number) (take i ts)) [] ∙ append-none (assertion_wires number (take i ts))
+
+  pub count-more : (ts : List (Term A)) (i : ℕ) (t : Term A) → i < length ts → t ≡ get_or ts i t → number t.coef ≡ 0 → length (assertion_wires number (take (i + 1) ts)) ≡ length (assertion_wires number (take i ts)) + 1
+  count-more ts i t l is z = ap length (wires-more ts i t l is z) ∙ length-append (assertion_wires number (take i ts)) (t.g ∷ [])
 
   wires-part : (ts : List (Term A)) (i : ℕ) → length (assertion_wires number (take i ts)) ≤ length (assertion_wires number ts)
   wires-part ts i =
@@ -210,6 +213,13 @@ module _ {A : Type 0} (number : A → ℕ) where
 -- ---- the lists of the layers, the inputs' last
 
 module _ {A : Type 0} (o : Ops A) where
+  -- there is nothing to set where no layer is left
+  pub none-set : (number : A → ℕ) (layers : List (Layer A)) (inputs out : List A) → length layers ≡ 0 → length out ≡ assertion_count number layers → out ≡ inner_checks o number layers inputs
+  none-set number layers inputs out e room = let none = nothing layers e in nothing out (room ∙ ap (assertion_count number) none) ∙ sym (ap (λ ls. inner_checks o number ls inputs) none)
+
+  pub no-checks : (number : A → ℕ) (layers : List (Layer A)) (inputs out : List A) → length layers ≡ 0 → length out ≡ check_count number layers → out ≡ checks_of o number layers inputs
+  no-checks number layers inputs out e room = let none = nothing layers e in nothing out (room ∙ ap (check_count number) none) ∙ sym (ap (λ ls. checks_of o number ls inputs) none)
+
   tail_is : {X : Type 0} (x y : X) (xs ys : List X) → x ∷ xs ≡ y ∷ ys → xs ≡ ys
   tail_is x y xs ys e = cc
 

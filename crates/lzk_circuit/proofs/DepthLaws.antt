@@ -1,5 +1,5 @@
 -- All layers' values, and how wide they are.
-use Rattle.std.specs.Prelude.{◌≡◌, ℕ, ◌+◌, ◌<◌, ◌≤◌, ◌++◌, List, [], ◌∷◌, length, map, take, Vec, None}
+use Rattle.std.specs.Prelude.{◌≡◌, ℕ, ◌+◌, ◌<◌, ◌≤◌, ◌++◌, List, [], ◌∷◌, length, map, take, drop, slice_set, Vec, None}
 use Rattle.std.specs.declared.alloc.Global.{Global}
 use Rattle.std.proofs.Common.{zero, suc, refl, sym, ap, ◌∙◌, arith, subst, get_or}
 use Rattle.std.proofs.Math.ListN.{replicate}
@@ -11,6 +11,10 @@ use Rattle.lzk_circuit.specs.declared.layer.Layer.{Layer}
 use Rattle.lzk_circuit.specs.Wires.{coef, wire, layer_values, wires_of, all_values, inputs_of, list_at, AreLayerValues}
 use Rattle.lzk_circuit.specs.Limits.{most_width}
 use Rattle.lzk_circuit.specs.Valid.{Wiring, input_width, under_of, ArePlaced, AreLayersPlaced, AreLayersOf, IsValid, widths, HaveWidths}
+
+pub nothing : {X : Type 0} (xs : List X) → length xs ≡ 0 → xs ≡ []
+nothing [] e = refl
+nothing (x ∷ xs) e = absurd (omega arith)
 
 -- what lists on the heap hold
 abbrev pub items_of : {A : Type 0} → List (Vec A Global) → List (List A)
@@ -147,3 +151,34 @@ module _ {A : Type 0} (o : Ops A) where
   are-layer-values (layer ∷ layers) inputs (suc l) top h =
       let e : suc (l + 1) ≡ suc l + 1 = omega arith in
       are-layer-values layers inputs l top h ∙ ap (λ (k : ℕ). layer_values o top (list_at (all_values o (layer ∷ layers) inputs) k)) e
+
+-- ---- the room of the lists of all layers
+
+pub only-one : {X : Type 0} (f : X → ℕ) (xs : List X) (n : ℕ) (d : X) → map f xs ≡ n ∷ [] → f (get_or xs 0 d) ≡ n
+only-one f [] n d e = absurd cc
+only-one f (y ∷ ys) n d e = ap (λ ns. get_or ns 0 0) e
+
+pub some-lists : {X : Type 0} (f : X → ℕ) (xs : List X) (ws : List ℕ) (n : ℕ) → map f xs ≡ ws ++ n ∷ [] → length xs ≡ 0 → ⊥
+some-lists f xs ws n e none = omega (arith, none, ap length e, length-map xs f, length-append ws (n ∷ []))
+
+module _ {A X : Type 0} (f : X → ℕ) (xs others : List X) (x : X) (layers rest : List (Layer A)) (layer : Layer A) (n : ℕ) (front : layers ≡ layer ∷ rest) (first : xs ≡ x ∷ others)
+    (room : map f xs ≡ map (λ layer. layer.wires) layers ++ n ∷ []) where
+  both-rooms : f x ∷ map f others ≡ layer.wires ∷ (map (λ layer. layer.wires) rest ++ n ∷ [])
+  both-rooms = ap (map f) (sym first) ∙ room ∙ ap (λ (ls : List (Layer A)). map (λ layer. layer.wires) ls ++ n ∷ []) front
+
+  pub others-room : map f others ≡ map (λ layer. layer.wires) rest ++ n ∷ []
+  others-room = ap (drop 1) both-rooms
+
+  pub first-room : f x ≡ layer.wires
+  first-room = ap (λ ns. get_or ns 0 0) both-rooms
+
+-- what the list there holds
+pub items-at : {A : Type 0} (lists : List (Vec A Global)) (l : ℕ) (v : Vec A Global) → l < length lists → v ≡ get_or lists l v → list_at (items_of lists) l ≡ v.items
+items-at [] l v lt is = absurd (omega arith)
+items-at (u ∷ us) zero v lt is = ap (λ (x : Vec _ Global). x.items) (sym is)
+items-at (u ∷ us) (suc l) v lt is = items-at us l v (omega arith) is
+
+pub one-set : {A : Type 0} (lists : List (Vec A Global)) (v : Vec A Global) (n : ℕ) (xs : List A) → map (λ list. length list.items) lists ≡ n ∷ [] → v.items ≡ xs → items_of (slice_set lists 0 v) ≡ xs ∷ []
+one-set [] v n xs e is = absurd cc
+one-set (u ∷ []) v n xs e is = ap (λ ys. ys ∷ []) is
+one-set (u ∷ w ∷ ws) v n xs e is = absurd (omega (arith, ap length e))

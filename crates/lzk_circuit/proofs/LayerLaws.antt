@@ -1,6 +1,6 @@
 -- What the walk over a layer's terms keeps.
 use Rattle.std.specs.Prelude.{◌≡◌, ℕ, ◌<◌, ◌≤◌, ◌+◌, cond, List, ◌∷◌, length, map, drop, slice_set}
-use Rattle.std.proofs.Common.{inl, inr, sym, ap, ◌∙◌, arith, get_or}
+use Rattle.std.proofs.Common.{inl, inr, sym, ap, ◌∙◌, arith, set, get_or, below_more}
 use Rattle.std.specs.List.{range_with_len}
 use Rattle.std.proofs.lemmas.List.{get_or-set_same, get_or-set_other, drop_more, drop_all, ext_get_or}
 use Rattle.std.proofs.lemmas.List.FromFn.{length-map-range_with_len, get_or-map-range_with_len}
@@ -53,3 +53,9 @@ module _ {A : Type 0} (o : Ops A) (r : RingLaws o) where
       ext_get_or o.zero out (map f (range_with_len 0 n)) (e ∙ sym (length-map-range_with_len f 0 n))
       (λ k l. sym (r.plus_zero (entry o out k)) ∙ sym (ap (λ xs. plus (entry o out k) (sum_list o xs (share o r below k))) (drop_all i ts li)) ∙ h k l
       ∙ sym (get_or-map-range_with_len f 0 n k k o.zero (omega arith) (omega arith)))
+
+-- one more wire is cleared
+pub clear-more : {X : Type 0} (zero : X) (i : ℕ) (x : X) (out : List X) → i < length out → x ≡ zero → ((k : ℕ) → k < i → get_or out k zero ≡ zero) → (k : ℕ) → k < i + 1 → get_or (set out i x) k zero ≡ zero
+clear-more zero i x out within is below =
+    below_more (λ k. get_or (set out i x) k zero ≡ zero) i
+    (λ k lt. get_or-set_other out i k x zero (omega (arith, lt)) ∙ below k lt) (get_or-set_same out i x zero within ∙ is)

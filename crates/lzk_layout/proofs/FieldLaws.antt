@@ -1,15 +1,21 @@
 -- Fields that were read stand in the bytes, what stands there is read, and lists of fields are read one after the other.
 use Rattle.lzk_profile.specs.Profile.{most_digests}
 use Rattle.std.proofs.Common.{◌≡◌, ℕ, suc, ◌+◌, ◌<◌, ◌≤◌, ◌-◌, replicate, Bool, true, false, cond, ltb, List, [], ◌∷◌, ◌++◌, length, take, drop, Option, Some, None, Result, Ok, Err, refl, sym, ap, subst, ◌∙◌, append_assoc, arith, inl, inr}
+use Rattle.std.specs.Borrow.{Bor}
 use Rattle.std.specs.Int.{w32, to_le_bytes, from_le_bytes}
+use Rattle.std.specs.List.{refill}
+use Rattle.std.specs.Result.{OnOk, IsErrAnd}
 use Rattle.std.proofs.lemmas.Nat.{from_le_bytes-to_le_bytes_4}
-use Rattle.std.proofs.lemmas.Bool.{ltb-false, le-ltb, cases_lt}
+use Rattle.std.proofs.lemmas.Bool.{ltb-false, le-ltb, lt-ltb, cases_lt}
 use Rattle.std.proofs.lemmas.List.{append-nil, take_at, drop_at, take-append-drop, length-append, length-take, get_or_append_left}
 use Rattle.std.proofs.Math.Seq.{get_or-append_seam}
 use Rattle.lzk_layout.specs.declared.fault.ProofKind.{ProofKind}
+use Rattle.lzk_layout.specs.declared.fault.ProofKind.TheVariants as kinds
 use Rattle.lzk_layout.specs.declared.fault.Stop.{Stop}
+use Rattle.lzk_field.specs.Bytes.{number_from}
 use Rattle.lzk_layout.specs.Proofs.{flat, AreDigests}
-use Rattle.lzk_layout.specs.Fields.{Sort, plain, count, path_at, Shape, width, wrong, ◌>>=◌, passes, field_at, fields_at, IsField, AreFields}
+use Rattle.lzk_layout.specs.Answers.{Gives}
+use Rattle.lzk_layout.specs.Fields.{Sort, plain, element, count, path_at, Shape, width, wrong, ◌>>=◌, stops, passes, field_at, fields_at, IsField, AreFields}
 
 pub from : {A B G : Type 0} (r : Result A Stop) (f : A → Result B Stop) (y : B) → (r >>= f) ≡ Ok y → ((x : A) → r ≡ Ok x → f x ≡ Ok y → G) → G
 from (Ok x) f y e k = k x refl e
@@ -49,6 +55,60 @@ field_again shape s field rest h =
     let w : ℕ = width shape s in
     let long : ltb (length (field ++ rest)) w ≡ false = le-ltb _ _ (omega (arith, length-append field rest, h.long)) in
     rw (long, take_at field rest w h.long, drop_at field rest w h.long, h.right) refl
+
+-- what reading a field gives where the bytes end before it, and where they do not
+pub field_short : (shape : Shape) (s : Sort) (bytes : List ℕ) → length bytes < width shape s → field_at shape s bytes ≡ stops kinds.Truncated bytes
+unfolding field_at
+field_short shape s bytes lt = let short : ltb (length bytes) (width shape s) ≡ true = lt-ltb _ _ lt in rw short refl
+
+pub field_whole : (shape : Shape) (s : Sort) (bytes : List ℕ) (fault : Option ProofKind) → width shape s ≤ length bytes → wrong shape s (take (width shape s) bytes) ≡ fault
+    → field_at shape s bytes ≡ passes fault bytes (take (width shape s) bytes) (drop (width shape s) bytes)
+unfolding field_at
+field_whole shape s bytes fault le e = let long : ltb (length bytes) (width shape s) ≡ false = le-ltb _ _ le in rw (long, e) refl
+
+-- the check of an element
+pub element_passes : (shape : Shape) (field : List ℕ) → number_from field < shape.size → wrong shape element field ≡ None
+unfolding wrong
+element_passes shape field lt = let below : ltb (number_from field) shape.size ≡ true = lt-ltb _ _ lt in rw below refl
+
+pub element_fails : (shape : Shape) (field : List ℕ) → shape.size ≤ number_from field → wrong shape element field ≡ Some kinds.Element
+unfolding wrong
+element_fails shape field le = let above : ltb (number_from field) shape.size ≡ false = le-ltb _ _ le in rw above refl
+
+-- what reading an element gives, where the bytes are cut behind the first n
+module _ (s : Shape) (bytes front : List ℕ) (n : ℕ) (same : n ≡ s.bytes) (long : n ≤ length bytes) (cut : front ≡ take n bytes) where
+  cut_is : take s.bytes bytes ≡ front
+  cut_is = sym (cut ∙ ap (λ (k : ℕ). take k bytes) same)
+
+  enough : s.bytes ≤ length bytes
+  enough = omega (arith, same, long)
+
+  pub element_read : (rest field : List ℕ) → rest ≡ drop n bytes → number_from front < s.size → field ≡ front → field_at s element bytes ≡ Ok (field, rest)
+  element_read rest field behind_it below is =
+      let others : drop s.bytes bytes ≡ rest = sym (behind_it ∙ ap (λ (k : ℕ). drop k bytes) same) in
+      let passes_it : wrong s element (take s.bytes bytes) ≡ None = ap (wrong s element) cut_is ∙ element_passes s front below in
+      field_whole s element bytes None enough passes_it ∙ ap (λ (f : List ℕ). passes None bytes f (drop s.bytes bytes)) (cut_is ∙ sym is) ∙ ap (passes None bytes field) others
+
+  pub element_stops : s.size ≤ number_from front → field_at s element bytes ≡ stops kinds.Element bytes
+  element_stops above = field_whole s element bytes (Some kinds.Element) enough (ap (wrong s element) cut_is ∙ element_fails s front above)
+
+-- any 32 bytes pass
+plain_passes : (s : Shape) (field : List ℕ) → wrong s plain field ≡ None
+unfolding wrong
+plain_passes s field = refl
+
+pub plain_read : (s : Shape) (bytes block rest : List ℕ) → 32 ≤ length bytes → block ≡ take 32 bytes → rest ≡ drop 32 bytes → field_at s plain bytes ≡ Ok (block, rest)
+plain_read s bytes block rest long cut behind_it =
+    field_whole s plain bytes None long (plain_passes s (take 32 bytes)) ∙ ap (λ (f : List ℕ). passes None bytes f (drop 32 bytes)) (sym cut) ∙ ap (passes None bytes block) (sym behind_it)
+
+-- a reader that failed has nothing to say of what it read
+pub not_on_ok : {T E : Type 0} (P : Type 0) (r : Result T E) (Q : E → Type 0) → IsErrAnd r Q → OnOk r P
+not_on_ok P (Ok x) Q h = absurd h
+not_on_ok P (Err e) Q h = tt
+
+-- a list that is written over whole
+pub refill_whole : {X : Type 0} (n : ℕ) (xs ws : List X) → length ws ≡ n → refill n xs ws ≡ ws
+refill_whole n xs ws e = take_at ws (drop (length ws) xs) n e
 
 pub fields_take : (shape : Shape) (ss : List Sort) (bytes : List ℕ) (x : List (List ℕ) × List ℕ) → fields_at shape ss bytes ≡ Ok x → (bytes ≡ flat x.0 ++ x.1) × AreFields shape ss x.0
 unfolding fields_at
@@ -135,6 +195,12 @@ fields_then shape ss ts bytes fs after e = fields-append shape ss ts bytes ∙ a
 
 pub fields_stop : (shape : Shape) (ss ts : List Sort) (bytes : List ℕ) (d : Stop) → fields_at shape ss bytes ≡ Err d → fields_at shape (ss ++ ts) bytes ≡ Err d
 fields_stop shape ss ts bytes d e = fields-append shape ss ts bytes ∙ ap (next shape ts) e
+
+-- A reader of the sorts ts behind ss answers what reading both gives.
+pub reads_on : (shape : Shape) (ss ts : List Sort) (bytes : List ℕ) (fs gs : List (List ℕ)) (after : List ℕ) (r : Result (Bor (List ℕ)) Stop) → fields_at shape ss bytes ≡ Ok (fs, after)
+    → Gives (λ (rest : Bor (List ℕ)). (gs, rest.now)) r (fields_at shape ts after) → Gives (λ (rest : Bor (List ℕ)). (fs ++ gs, rest.now)) r (fields_at shape (ss ++ ts) bytes)
+reads_on shape ss ts bytes fs gs after (Ok rest) e h = fields_then shape ss ts bytes fs after e ∙ ap (behind fs) h
+reads_on shape ss ts bytes fs gs after (Err d) e h = fields_then shape ss ts bytes fs after e ∙ ap (behind fs) h
 
 -- ---- the rest of the whole
 

@@ -1,5 +1,6 @@
 pub mod Faults
 pub mod FieldLaws
+pub mod AnswerLaws
 pub mod CursorLaws
 pub mod CursorStates
 pub mod FileLaws

@@ -53,6 +53,12 @@ module _ {A : Type 0} (field : A → List ℕ) (s : Shape) (rows n i : ℕ) (who
       goes_over s (replicate rows element) (opened_sorts rows (n - (i + 1))) whole (fs ++ nonce ∷ []) (map field column) after rest behind_nonce (ap (λ (r : ℕ). fields_at s (replicate r element) after) (sym same) ∙ f)
       ∙ ap (λ (t : List (List ℕ)). behind t (fields_at s (opened_sorts rows (n - (i + 1))) rest)) (append_assoc fs (nonce ∷ []) (map field column))
 
+pub no_more : (at rows : ℕ) → at ≤ at + rows
+no_more at rows = omega arith
+
+pub next_place : (i rows at : ℕ) → at ≡ i * rows → at + rows ≡ (i + 1) * rows
+next_place i rows at e = grind (arith, e)
+
 -- the fields of the columns that are filled, with one more
 pub opened_more : {A : Type 0} (field : A → List ℕ) (rows n i at k : ℕ) (ns : List (List ℕ)) (columns column : List A) (nonce : List ℕ) → i < n → length ns ≡ n → length columns ≡ n * rows → at ≡ i * rows → length column ≡ rows
     → opened_fields field rows (take (i + 1) (set ns i nonce)) (take (at + rows) (put_mid at k columns column)) ≡ opened_fields field rows (take i ns) (take at columns) ++ nonce ∷ map field column

@@ -13,12 +13,13 @@ use Rattle.lzk_layout.specs.declared.part.ProofPart.{ProofPart}
 use Rattle.lzk_layout.specs.declared.part.ProofPart.TheVariants.{Magic, Id, Root, Message, Ldt, Dot, QuadHead, QuadTail, Nonce, Column, Count, Digest}
 use Rattle.lzk_layout.specs.declared.fault.ProofKind.{ProofKind}
 use Rattle.lzk_layout.specs.declared.fault.ProofKind.TheVariants as kinds
+use Rattle.lzk_layout.specs.declared.fault.ProofFault.{ProofFault}
 use Rattle.lzk_layout.specs.declared.cursor.Reading.{Reading}
 use Rattle.lzk_layout.specs.Sizes.{AreBounded}
 use Rattle.lzk_layout.specs.Fields.{Sort, magic, plain, element, count, Shape, width, wrong}
 use Rattle.lzk_layout.specs.Parts.{sort_of, part_width, parts, field_place, before_count, number_of}
 use Rattle.lzk_layout.specs.Fronts.{digests_in, known_parts, next_part}
-use Rattle.lzk_layout.specs.Readings.{IsSound, digests_after, passed, TakesMore, TakesField}
+use Rattle.lzk_layout.specs.Readings.{IsSound, digests_after, passed, TakesMore, TakesField, TakesFault, FailsPart}
 use Rattle.lzk_layout.proofs.PartLaws.{get_front, get_behind, parts_stand}
 use Rattle.lzk_layout.proofs.PartSorts.{length-parts, count_stands, early_parts, early_take}
 
@@ -133,8 +134,36 @@ module _ (block : List ℕ) (held byte : ℕ) (less : held < 32) (zeros : block 
       let later : List ℕ = replicate (32 - (held + 1)) 0 in
       ap (λ (xs : List ℕ). slice_set xs held byte) (zeros ∙ ap (λ (xs : List ℕ). rest ++ xs) one_zero) ∙ set_at rest 0 later byte held rest_long ∙ sym (append_assoc rest (byte ∷ []) later)
 
+  -- all that a field's width cuts off it is there
+  pub cut_long : (n : ℕ) → n ≤ 32 → length (take n (slice_set block held byte)) ≡ n
+  cut_long n few =
+      omega (arith, less, few, rest_long, length-take n (slice_set block held byte), ap length written, length-append (rest ++ byte ∷ []) (replicate (32 - (held + 1)) 0), length-append rest (byte ∷ []), length-replicate {A = ℕ} (32 - (held + 1)) 0)
+
   pub held_more : take (held + 1) (slice_set block held byte) ≡ rest ++ byte ∷ []
   held_more = ap (take (held + 1)) written ∙ take_at (rest ++ byte ∷ []) (replicate (32 - (held + 1)) 0) (held + 1) (omega (arith, length-append rest (byte ∷ []), rest_long))
+
+-- ---- what a byte does
+
+-- no byte comes behind the last part
+pub takes_trailing : (s : Shape) (old : Reading) (byte : ℕ) (fault : ProofFault) → old.part ≡ None → fault ≡ record { offset = old.offset; kind = kinds.Trailing } → TakesFault s old byte fault
+takes_trailing s old byte fault none is = record {
+  at = ap (λ (f : ProofFault). f.offset) is;
+  fails = subst (λ (o : Option ProofPart). FailsPart s old byte fault.kind o) (sym none) (ap (λ (f : ProofFault). f.kind) is);
+}
+
+module _ (s : Shape) (old : Reading) (byte end : ℕ) (part : ProofPart) (is : old.part ≡ Some part) (long : end ≡ part_width s part) (held_end : old.held + 1 ≡ end) where
+  abbrev read : List ℕ
+  read = slice_set old.block old.held byte
+
+  -- the field that the byte ends fails its check
+  pub takes_wrong : (kind : ProofKind) (fault : ProofFault) → wrong s (sort_of part) (take end read) ≡ Some kind → fault ≡ record { offset = old.offset; kind = kind } → TakesFault s old byte fault
+  takes_wrong kind fault fails fault_is =
+      let same : fault.kind ≡ kind = ap (λ (f : ProofFault). f.kind) fault_is in
+      let failed : wrong s (sort_of part) (take (old.held + 1) read) ≡ Some fault.kind = ap (λ (n : ℕ). wrong s (sort_of part) (take n read)) held_end ∙ fails ∙ ap (λ (k : ProofKind). Some k) (sym same) in
+      record {
+        at = ap (λ (f : ProofFault). f.offset) fault_is;
+        fails = subst (λ (o : Option ProofPart). FailsPart s old byte fault.kind o) (sym is) (held_end ∙ long, failed);
+      }
 
 -- ---- it stays sound
 

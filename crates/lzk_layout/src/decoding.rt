@@ -6,7 +6,8 @@ ghost use Rattle.lzk_layout.specs.Sizes.{AreParams, proof_length};
 ghost use Rattle.lzk_layout.specs.Proofs.{element_field, opened_fields, fields_of, AreDigests, HasLengths, ProofBytes};
 ghost use Rattle.lzk_layout.specs.Answers.{answer_fields, answer_sorts_of, Gives};
 ghost use Rattle.lzk_layout.specs.declared.params.Params.{Params};
-ghost use Rattle.lzk_layout.specs.Fields.{magic, plain, element, shape, opened_sorts, fields_at, proof_at, ProofFaultAt};
+ghost use Rattle.lzk_layout.specs.Fields.{Shape, shape, magic, plain, element, opened_sorts, fields_at};
+ghost use Rattle.lzk_layout.specs.Fields.{proof_at, ProofFaultAt};
 ghost use Rattle.lzk_layout.specs.Files.{IsNoProof, IsRead, OneProof, OneFault, NoFault, SomeProof};
 
 use crate::fault::{ProofFault, ProofKind, Stop};
@@ -18,20 +19,18 @@ use lzk_field::Field;
 
 // The magic, the circuit's id and the root.
 #[tactic(auto, unfolding(crate::specs::Fields::fields_at))]
-fn head_into<'a, F: Field>(proof: &mut Proof<F>, bytes: &'a [u8]) -> Result<&'a [u8], Stop>
-    ensures read { Gives
-        (λ rest. ((76 ∷ file_letter ∷ 80 ∷ 49 ∷ []) ∷ proof.new.id ∷ proof.new.root ∷ [], rest.now)) result
-        (fields_at (shape F.coding.bytes F.coding.size) (magic ∷ plain ∷ plain ∷ []) bytes.now) }
-    ensures id { OnOk result (length proof.new.id ≡ 32) }
-    ensures root { OnOk result (length proof.new.root ≡ 32) }
-    ensures lengths { (p : Params) → HasLengths p proof.old → HasLengths p proof.new }
-    ensures others { proof.new ≡ record proof.old { id = proof.new.id; root = proof.new.root } }
+fn head_into<'a>(id: &mut [u8; 32], root: &mut [u8; 32], bytes: &'a [u8]) -> Result<&'a [u8], Stop>
+    ensures read { (s : Shape)
+        → Gives (λ rest. ((76 ∷ file_letter ∷ 80 ∷ 49 ∷ []) ∷ id.new ∷ root.new ∷ [], rest.now)) result
+        (fields_at s (magic ∷ plain ∷ plain ∷ []) bytes.now) }
+    ensures id { OnOk result (length id.new ≡ 32) }
+    ensures root { OnOk result (length root.new ≡ 32) }
 {
     let rest = magic_of(bytes)?;
-    let (id, rest) = block_of(rest)?;
-    let (root, rest) = block_of(rest)?;
-    proof.id = *id;
-    proof.root = *root;
+    let (first, rest) = block_of(rest)?;
+    let (second, rest) = block_of(rest)?;
+    *id = *first;
+    *root = *second;
     Ok(rest)
 }
 
@@ -42,6 +41,23 @@ fn list_into<'a, F: Field>(list: &mut Elements<F>, bytes: &'a [u8]) -> Result<&'
     ensures length { length list.new ≡ length list.old }
 {
     elements_into(list.as_mut_slice(), bytes)
+}
+
+// Elements in place of those of the one list, and behind them those of the other.
+fn lists_into<'a, F: Field>(
+    one: &mut Elements<F>,
+    other: &mut Elements<F>,
+    bytes: &'a [u8],
+) -> Result<&'a [u8], Stop>
+    ensures read { let field = element_field F.coding.bytes F.coding.number in
+        Gives (λ rest. (map field one.new ++ map field other.new, rest.now)) result
+        (fields_at (shape F.coding.bytes F.coding.size)
+        (replicate (length one.old) element ++ replicate (length other.old) element) bytes.now) }
+    ensures one { length one.new ≡ length one.old }
+    ensures other { length other.new ≡ length other.old }
+{
+    let rest = list_into(one, bytes)?;
+    list_into(other, rest)
 }
 
 // To each nonce its column of so many elements.
@@ -63,7 +79,6 @@ fn columns_into<'a, F: Field>(
 }
 
 // The elements that are no columns'.
-#[tactic(auto, using(crate::proofs::FieldLaws::fields_then, crate::proofs::FieldLaws::fields_stop))]
 fn answers_into<'a, F: Field>(proof: &mut Proof<F>, bytes: &'a [u8]) -> Result<&'a [u8], Stop>
     ensures read { Gives (λ rest. (answer_fields (element_field F.coding.bytes F.coding.number) proof.new, rest.now))
         result (fields_at (shape F.coding.bytes F.coding.size) (answer_sorts_of proof.old) bytes.now) }
@@ -76,12 +91,9 @@ fn answers_into<'a, F: Field>(proof: &mut Proof<F>, bytes: &'a [u8]) -> Result<&
       quad_tail = proof.new.quad_tail;
     } }
 {
-    let messages = list_into(&mut proof.messages, bytes)?;
-    let ldt = list_into(&mut proof.ldt, messages)?;
-    let dot = list_into(&mut proof.dot, ldt)?;
-    let quad_head = list_into(&mut proof.quad_head, dot)?;
-    let quad_tail = list_into(&mut proof.quad_tail, quad_head)?;
-    Ok(quad_tail)
+    let rest = lists_into(&mut proof.messages, &mut proof.ldt, bytes)?;
+    let rest = lists_into(&mut proof.dot, &mut proof.quad_head, rest)?;
+    list_into(&mut proof.quad_tail, rest)
 }
 
 // The whole file.
@@ -98,7 +110,7 @@ fn file_into<F: Field>(params: &Params, bytes: &[u8], proof: &mut Proof<F>) -> R
     ensures lengths { HasLengths params.now proof.new }
     ensures room { proof.new.path.room ≡ proof.old.path.room }
 {
-    let rest = head_into(proof, bytes)?;
+    let rest = head_into(&mut proof.id, &mut proof.root, bytes)?;
     let rest = answers_into(proof, rest)?;
     let rows = params.nrow as usize;
     let rest = columns_into(&mut proof.nonces, &mut proof.columns, rows, rest)?;

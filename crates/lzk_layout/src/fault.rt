@@ -25,7 +25,7 @@ pub struct ProofFault {
 }
 
 /// The first check that failed, with how many bytes are left from its field on.
-#[derive(Clone, Copy, Debug, PartialEq, Eq)]
+#[derive(Clone, Copy)]
 pub(crate) struct Stop {
     pub left: usize,
     pub kind: ProofKind,

@@ -43,6 +43,19 @@ fn zero_blocks(alloc: Global, count: usize) -> Result<Blocks, AllocError>
     Ok(Blocks { list })
 }
 
+// Two lists of so many zeros, or none.
+fn two_lists<F: Field>(
+    alloc: Global,
+    first: u32,
+    second: u32,
+) -> Result<(Elements<F>, Elements<F>), AllocError>
+    ensures first { IfOk result (λ lists. lists.0 ≡ replicate first F.ops.zero) }
+    ensures second { IfOk result (λ lists. lists.1 ≡ replicate second F.ops.zero) }
+{
+    let first = Elements::zeros(alloc, first as usize)?;
+    Ok((first, Elements::zeros(alloc, second as usize)?))
+}
+
 impl<F: Field> Proof<F> {
     /// A proof of zeros for these parameters, with an empty path and room for as many digests as a path may have.
     pub fn new(alloc: Global, params: &Params) -> Result<Proof<F>, AllocError>
@@ -50,17 +63,22 @@ impl<F: Field> Proof<F> {
         ensures zeros { IfOk result (λ proof. proof ≡ zero_proof F.ops params.now) }
         ensures lengths { IfOk result (λ proof. HasLengths params.now proof) }
     {
+        let path = Path::with_room(alloc, MOST_DIGESTS)?;
+        let nonces = zero_blocks(alloc, OPENED)?;
+        let (messages, columns) = two_lists(alloc, params.nsum, OPENED as u32 * params.nrow)?;
+        let (ldt, dot) = two_lists(alloc, params.block, params.dblock)?;
+        let (quad_head, quad_tail) = two_lists(alloc, BLINDS as u32, params.dblock - params.block)?;
         Ok(Proof {
             id: [0; 32],
             root: [0; 32],
-            messages: Elements::zeros(alloc, params.nsum as usize)?,
-            ldt: Elements::zeros(alloc, params.block as usize)?,
-            dot: Elements::zeros(alloc, params.dblock as usize)?,
-            quad_head: Elements::zeros(alloc, BLINDS)?,
-            quad_tail: Elements::zeros(alloc, (params.dblock - params.block) as usize)?,
-            nonces: zero_blocks(alloc, OPENED)?,
-            columns: Elements::zeros(alloc, OPENED * params.nrow as usize)?,
-            path: Path::with_room(alloc, MOST_DIGESTS)?,
+            messages,
+            ldt,
+            dot,
+            quad_head,
+            quad_tail,
+            nonces,
+            columns,
+            path,
         })
     }
 }

@@ -1,4 +1,4 @@
-use Rattle.std.proofs.Common.{◌≡◌, map, List, length, ap, sym, ◌∙◌, arith, subst, Ok, replicate, drop, false}
+use Rattle.std.proofs.Common.{◌≡◌, map, length, ap, sym, ◌∙◌, arith, subst, Ok, replicate, drop, false}
 use Rattle.std.specs.List.Sorted.{IsStrictlyIncreasing}
 use Rattle.std.proofs.lemmas.List.{length-map}
 use Rattle.std.proofs.lemmas.Result.{err_from_is_err_and}

@@ -1,4 +1,4 @@
-use Rattle.std.proofs.Common.{◌++◌, ◌≤◌, ℕ, ap, sym, subst, arith, map, length, List}
+use Rattle.std.proofs.Common.{◌++◌, ℕ, ap, sym, subst, arith, map, length, List}
 use Rattle.std.specs.List.Sorted.{IsStrictlyIncreasing}
 use Rattle.std.proofs.lemmas.List.{drop_all}
 use Rattle.lzk_circuit.specs.declared.layer.Layer.{Layer}
@@ -8,6 +8,7 @@ use Rattle.lzk_circbytes.specs.Recent.{HaveSame}
 use Rattle.lzk_circbytes.proofs.Recent.{same_end}
 use Rattle.lzk_circbytes.proofs.Written.{coefficients_go_on}
 use Rattle.lzk_circbytes.proofs.OneFile.{can_write_layers, coefs_made, coefficients_some, constants_rise, few_coefs}
+use Rattle.lzk_circbytes.proofs.ReadSteps.{not_if_ok}
 use Rattle.lzk_circbytes.proofs.encoding.coefs_of.Goals as goal
 
 pub loop-l-preserved : goal.loop-l-preserved
@@ -45,3 +46,27 @@ pub returns-clause-fit : goal.returns-clause-fit
 returns-clause-fit g c =
     let F = g.F.Field in
     subst (λ (cs : List ℕ). CanWriteLayers cs (map (numbered_layer F.coding.number) c.args.circuit.now.layers)) (sym (returns-clause-numbers g c)) (can_write_layers F.ops F.coding.size F.coding.number F.coding.element F.coding.bytes F.laws F.coding.id c.args.circuit.now c.depth-l-end.ensures.valid)
+
+pub returns-in_err-push-clause-numbers : goal.returns-in_err-push-clause-numbers
+returns-in_err-push-clause-numbers g c = not_if_ok _ c.from_residual.result _ c.from_residual.ensures.1
+
+pub returns-in_err-push-clause-rising : goal.returns-in_err-push-clause-rising
+returns-in_err-push-clause-rising g c = not_if_ok _ c.from_residual.result _ c.from_residual.ensures.1
+
+pub returns-in_err-push-clause-few : goal.returns-in_err-push-clause-few
+returns-in_err-push-clause-few g c = not_if_ok _ c.from_residual.result _ c.from_residual.ensures.1
+
+pub returns-in_err-push-clause-fit : goal.returns-in_err-push-clause-fit
+returns-in_err-push-clause-fit g c = not_if_ok _ c.from_residual.result _ c.from_residual.ensures.1
+
+pub returns-in_err-push_coefficients-clause-numbers : goal.returns-in_err-push_coefficients-clause-numbers
+returns-in_err-push_coefficients-clause-numbers g c = not_if_ok _ c.from_residual-in_err-push_coefficients.result _ c.from_residual-in_err-push_coefficients.ensures.1
+
+pub returns-in_err-push_coefficients-clause-rising : goal.returns-in_err-push_coefficients-clause-rising
+returns-in_err-push_coefficients-clause-rising g c = not_if_ok _ c.from_residual-in_err-push_coefficients.result _ c.from_residual-in_err-push_coefficients.ensures.1
+
+pub returns-in_err-push_coefficients-clause-few : goal.returns-in_err-push_coefficients-clause-few
+returns-in_err-push_coefficients-clause-few g c = not_if_ok _ c.from_residual-in_err-push_coefficients.result _ c.from_residual-in_err-push_coefficients.ensures.1
+
+pub returns-in_err-push_coefficients-clause-fit : goal.returns-in_err-push_coefficients-clause-fit
+returns-in_err-push_coefficients-clause-fit g c = not_if_ok _ c.from_residual-in_err-push_coefficients.result _ c.from_residual-in_err-push_coefficients.ensures.1

@@ -1,5 +1,5 @@
 use Rattle.std.proofs.Common.{drop, ◌≤◌, ◌++◌, ◌∙◌, ap, sym, subst, arith, List, ℕ, length}
-use Rattle.lzk_circbytes.specs.Numbered.{Shape, shape, numbered, coefs_of, zeros_of, constants_of}
+use Rattle.lzk_circbytes.specs.Numbered.{Shape, shape, numbered, zeros_of, constants_of}
 use Rattle.lzk_circbytes.specs.Fits.{head_bytes}
 use Rattle.lzk_circbytes.proofs.Bodies.{coefs_behind, zeros_few}
 use Rattle.lzk_circbytes.proofs.OneFile.{few}

@@ -7,6 +7,7 @@ use Rattle.lzk_circbytes.specs.Reading.{layer_at, layers_at}
 use Rattle.lzk_circbytes.specs.Answers.{under}
 use Rattle.lzk_circbytes.proofs.Loop.{goes_on, ends, is_done, begins}
 use Rattle.lzk_circbytes.proofs.Marking.{marks_none, marks_layer}
+use Rattle.lzk_circbytes.proofs.ReadSteps.{not_if_ok}
 use Rattle.lzk_circbytes.proofs.reading.layers_of.Goals as goal
 
 pub loop-init : goal.loop-init
@@ -47,3 +48,30 @@ pub returns-clause-value : goal.returns-clause-value
 returns-clause-value g c =
     let numbers = map g.F.Field.coding.number c.args.coefs.now.list.now in
     is_done above_layer (layer_at numbers) (map (numbered_layer g.F.Field.coding.number) c.loop.layers.items) c.args.count c.loop.counter (under c.loop.below.width c.loop.below.wires c.loop.below.terms) c.loop.rest.now (layers_at numbers c.args.inputs c.args.count c.args.bytes.now) c.loop-test.false c.loop.invariant.read
+
+pub returns-in_err-layers-clause-used : goal.returns-in_err-layers-clause-used
+returns-in_err-layers-clause-used g c = not_if_ok _ c.from_residual.result _ c.from_residual.ensures.1
+
+pub returns-in_err-layer-clause-used : goal.returns-in_err-layer-clause-used
+returns-in_err-layer-clause-used g c = not_if_ok _ c.from_residual-in_err-layer.result _ c.from_residual-in_err-layer.ensures.1
+
+pub returns-in_err-push-clause-used : goal.returns-in_err-push-clause-used
+returns-in_err-push-clause-used g c = not_if_ok _ c.from_residual-in_err-push.result _ c.from_residual-in_err-push.ensures.1
+
+pub layer_of-requires-clause-flags : goal.layer_of-requires-clause-flags
+layer_of-requires-clause-flags g c κs within = c.loop.invariant.flags
+
+pub layer_of-requires-clause-wires : goal.layer_of-requires-clause-wires
+layer_of-requires-clause-wires g c κs within = c.loop.invariant.wires
+
+pub layer_of-requires-clause-terms : goal.layer_of-requires-clause-terms
+layer_of-requires-clause-terms g c κs within = c.loop.invariant.terms
+
+pub overflow_add-below : goal.overflow_add-below
+overflow_add-below g c = omega (arith, c.in_ok-layer.ensures.wires)
+
+pub overflow_add-below-in-loop : goal.overflow_add-below-in-loop
+overflow_add-below-in-loop g c = omega (arith, c.in_ok-layer.ensures.terms, ap length c.as_slice.ensures)
+
+pub returns-clause-used : goal.returns-clause-used
+returns-clause-used g c = c.loop.invariant.used

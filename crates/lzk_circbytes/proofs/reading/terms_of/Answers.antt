@@ -6,6 +6,7 @@ use Rattle.lzk_circbytes.specs.Numbered.{numbered_term, is_in_terms}
 use Rattle.lzk_circbytes.specs.Reading.{term_at, as_before, terms_at}
 use Rattle.lzk_circbytes.proofs.Loop.{goes_on, ends, is_done, begins}
 use Rattle.lzk_circbytes.proofs.Marking.{marks_none, marks_term}
+use Rattle.lzk_circbytes.proofs.ReadSteps.{not_if_ok}
 use Rattle.lzk_circbytes.proofs.reading.terms_of.Goals as goal
 
 pub loop-init : goal.loop-init
@@ -45,3 +46,24 @@ pub returns-clause-value : goal.returns-clause-value
 returns-clause-value g c =
     let view = numbered_term g.F.Field.coding.number in
     is_done as_before (term_at (map g.F.Field.coding.number c.args.coefs.now.list.now) c.args.wires c.args.below) (map view c.loop.terms.items) c.args.count c.loop.counter (option_map view c.loop.before) c.loop.rest.now (terms_at (map g.F.Field.coding.number c.args.coefs.now.list.now) c.args.wires c.args.below c.args.count c.args.bytes.now) c.loop-test.false c.loop.invariant.read
+
+pub returns-in_err-terms-clause-count : goal.returns-in_err-terms-clause-count
+returns-in_err-terms-clause-count g c = not_if_ok _ c.from_residual.result _ c.from_residual.ensures.1
+
+pub returns-in_err-terms-clause-used : goal.returns-in_err-terms-clause-used
+returns-in_err-terms-clause-used g c = not_if_ok _ c.from_residual.result _ c.from_residual.ensures.1
+
+pub returns-in_err-term-clause-count : goal.returns-in_err-term-clause-count
+returns-in_err-term-clause-count g c = not_if_ok _ c.from_residual-in_err-term.result _ c.from_residual-in_err-term.ensures.1
+
+pub returns-in_err-term-clause-used : goal.returns-in_err-term-clause-used
+returns-in_err-term-clause-used g c = not_if_ok _ c.from_residual-in_err-term.result _ c.from_residual-in_err-term.ensures.1
+
+pub returns-in_err-push-clause-count : goal.returns-in_err-push-clause-count
+returns-in_err-push-clause-count g c = not_if_ok _ c.from_residual-in_err-push.result _ c.from_residual-in_err-push.ensures.1
+
+pub returns-in_err-push-clause-used : goal.returns-in_err-push-clause-used
+returns-in_err-push-clause-used g c = not_if_ok _ c.from_residual-in_err-push.result _ c.from_residual-in_err-push.ensures.1
+
+pub bounds-used-k : goal.bounds-used-k
+bounds-used-k g c = omega (arith, c.in_ok-term.ensures.bound, c.loop.invariant.flags)

@@ -1,4 +1,4 @@
-use Rattle.std.proofs.Common.{ℕ, List, get_or, ◌≡◌, ◌≢◌, ◌<◌, ◌∙◌, ap, length, map, take, subst, sym, arith}
+use Rattle.std.proofs.Common.{refl, lit≤, ℕ, List, get_or, ◌≡◌, ◌≢◌, ◌<◌, ◌∙◌, ap, length, map, take, subst, sym, arith}
 use Rattle.std.specs.Prelude.{[], ◌∷◌, None}
 use Rattle.std.proofs.lemmas.List.{take_all, length-append}
 use Rattle.lzk_circuit.specs.declared.layer.Term.{Term}
@@ -80,3 +80,9 @@ returns g c =
     let all : take c.loop-i.next c.loop-i.out ≡ c.loop-i.out = take_all c.loop-i.next c.loop-i.out (omega (arith, count, c.requires.room, c.loop-i.auto.out, c.loop-i.invariant.next)) in
     sym all ∙ c.loop-i.invariant.set ∙ ap (λ us. map (asserted m.ops ts c.args.below.now) (assertion_wires m.coding.number us)) done
     ∙ ap (λ us. map (asserted m.ops us c.args.below.now) (assertion_wires m.coding.number us)) same
+
+pub loop-i-init : goal.loop-i-init
+loop-i-init g c = record { next = refl; set = refl; few = lit≤ tt }
+
+pub bounds-terms-i : goal.bounds-terms-i
+bounds-terms-i g c = c.loop-i-test.true

@@ -1,9 +1,9 @@
 use Rattle.std.proofs.Common.{refl, ◌∙◌, ap, length, subst, sym, arith}
 use Rattle.std.specs.Prelude.{◌++◌, None}
-use Rattle.lzk_circuit.specs.Checks.{output_checks, checks_of}
+use Rattle.lzk_circuit.specs.Checks.{check_count, output_checks, checks_of}
 use Rattle.lzk_circuit.specs.Valid.{ArePlaced, AreLayersOf}
 use Rattle.lzk_circuit.specs.Wires.{wires_of}
-use Rattle.lzk_circuit.proofs.CheckLaws.{under-values, top-values, top-length, some-values, placed-over, outputs-set}
+use Rattle.lzk_circuit.proofs.CheckLaws.{no-checks, under-values, top-values, top-length, some-values, placed-over, outputs-set}
 use Rattle.lzk_circuit.proofs.checks.set_checks.Goals as goal
 
 pub returns-in_default-split_first-2 : goal.returns-in_default-split_first-2
@@ -54,3 +54,23 @@ returns g c = λ inputs e.
     c.add_asserted.ensures.sum in
     ap (λ xs. xs ++ c.set_all_asserted.new.out) outputs ∙ ap (λ ys. output_checks o layer (wires_of o rest inputs) ++ ys) (c.set_all_asserted.ensures inputs under)
     ∙ ap (λ ls. checks_of o number ls inputs) (sym front)
+
+pub returns-in_default : goal.returns-in_default
+returns-in_default g c = λ inputs e. no-checks g.F.Field.ops g.F.Field.coding.number c.args.layers.now inputs c.args.out.now c.in_default.ensures.cases c.requires.room
+
+pub returns-in_default-split_first : goal.returns-in_default-split_first
+returns-in_default-split_first g c = λ inputs e. absurd (some-values g.F.Field.ops c.args.layers.now c.args.lists.now inputs e c.in_default-split_first.ensures.cases)
+
+pub split_at_mut-outputs-requires : goal.split_at_mut-outputs-requires
+split_at_mut-outputs-requires g c = omega (arith, c.requires.room ∙ ap (check_count g.F.Field.coding.number) c.in-Some.ensures.cases.0)
+
+pub set_all_asserted-requires-clause-lists : goal.set_all_asserted-requires-clause-lists
+set_all_asserted-requires-clause-lists g c κs within =
+    let o = g.F.Field.ops in
+    let inputs = c.requires.lists.0 in
+    let front = c.in-Some.ensures.cases.0 in
+    let placed = subst (AreLayersOf o 2 (length inputs)) front c.requires.lists.1 in
+    (inputs, placed.1, under-values o c.args.layers.now c.in-Some.layers.now c.in-Some.layer.now c.args.lists.now c.in-Some-split_first.lists.now _ inputs front c.in-Some-split_first.ensures.cases.0 c.requires.lists.2)
+
+pub set_all_asserted-requires-clause-room : goal.set_all_asserted-requires-clause-room
+set_all_asserted-requires-clause-room g c κs within = omega (arith, c.requires.room ∙ ap (check_count g.F.Field.coding.number) c.in-Some.ensures.cases.0, c.split_at_mut-outputs.ensures.back_len)

@@ -1,59 +1,47 @@
-use Rattle.std.proofs.Common.{◌++◌, length, map, replicate, ap, ◌∙◌}
+use Rattle.std.proofs.Common.{map, refl}
 use Rattle.std.proofs.lemmas.Result.{err_from_is_err_and}
 use Rattle.lzk_layout.specs.Proofs.{element_field}
-use Rattle.lzk_layout.specs.Fields.{shape, element}
-use Rattle.lzk_layout.proofs.FieldLaws.{behind, fields_then, fields_stop}
+use Rattle.lzk_layout.specs.Fields.{shape}
+use Rattle.lzk_layout.proofs.AnswerLaws.{first_two_stop, next_two_stop, answers_read, same_lengths}
 use Rattle.lzk_layout.proofs.decoding.answers_into.Goals as goal
 
-pub returns-in_err-ldt-clause-read : goal.returns-in_err-ldt-clause-read
-returns-in_err-ldt-clause-read g c =
+pub returns-in_err-rest-clause-read : goal.returns-in_err-rest-clause-read
+returns-in_err-rest-clause-read g c =
     let s = shape g.F.Field.coding.bytes g.F.Field.coding.size in
-    let field = element_field g.F.Field.coding.bytes g.F.Field.coding.number in
-    let old = c.args.proof.now in
-    let p = err_from_is_err_and c.from_residual-in_err-ldt.result c.from_residual-in_err-ldt.ensures.1 in
-    rw (p.1, p.2) (fields_then s (replicate (length old.messages) element) (replicate (length old.ldt) element ++ (replicate (length old.dot) element ++ (replicate (length old.quad_head) element ++ (replicate (length old.quad_tail) element)))) c.args.bytes.now (map field c.list_into.new.list) c.in_ok-messages.messages.now c.in_ok-messages.ensures.read
-    ∙ ap (behind (map field c.list_into.new.list)) (fields_stop s (replicate (length old.ldt) element) (replicate (length old.dot) element ++ (replicate (length old.quad_head) element ++ (replicate (length old.quad_tail) element))) c.in_ok-messages.messages.now c.in_err-ldt.field-0.0 c.in_err-ldt.ensures.read))
+    let p = err_from_is_err_and c.from_residual.result c.from_residual.ensures.1 in
+    rw (p.1, p.2) (first_two_stop s c.args.proof.now c.args.bytes.now c.in_err-rest.field-0.0 c.in_err-rest.ensures.read)
 
-pub returns-in_err-dot-clause-read : goal.returns-in_err-dot-clause-read
-returns-in_err-dot-clause-read g c =
-    let s = shape g.F.Field.coding.bytes g.F.Field.coding.size in
-    let field = element_field g.F.Field.coding.bytes g.F.Field.coding.number in
-    let old = c.args.proof.now in
-    let p = err_from_is_err_and c.from_residual-in_err-dot.result c.from_residual-in_err-dot.ensures.1 in
-    rw (p.1, p.2) (fields_then s (replicate (length old.messages) element) (replicate (length old.ldt) element ++ (replicate (length old.dot) element ++ (replicate (length old.quad_head) element ++ (replicate (length old.quad_tail) element)))) c.args.bytes.now (map field c.list_into.new.list) c.in_ok-messages.messages.now c.in_ok-messages.ensures.read
-    ∙ ap (behind (map field c.list_into.new.list)) (fields_then s (replicate (length old.ldt) element) (replicate (length old.dot) element ++ (replicate (length old.quad_head) element ++ (replicate (length old.quad_tail) element))) c.in_ok-messages.messages.now (map field c.list_into-2.new.list) c.in_ok-ldt.ldt.now c.in_ok-ldt.ensures.read
-    ∙ ap (behind (map field c.list_into-2.new.list)) (fields_stop s (replicate (length old.dot) element) (replicate (length old.quad_head) element ++ (replicate (length old.quad_tail) element)) c.in_ok-ldt.ldt.now c.in_err-dot.field-0.0 c.in_err-dot.ensures.read)))
+pub returns-in_err-rest-clause-lengths : goal.returns-in_err-rest-clause-lengths
+returns-in_err-rest-clause-lengths g c = λ p h. same_lengths p c.args.proof.now _ h c.lists_into.ensures.one c.lists_into.ensures.other refl refl refl refl refl
 
-pub returns-in_err-quad_head-clause-read : goal.returns-in_err-quad_head-clause-read
-returns-in_err-quad_head-clause-read g c =
-    let s = shape g.F.Field.coding.bytes g.F.Field.coding.size in
-    let field = element_field g.F.Field.coding.bytes g.F.Field.coding.number in
-    let old = c.args.proof.now in
-    let p = err_from_is_err_and c.from_residual-in_err-quad_head.result c.from_residual-in_err-quad_head.ensures.1 in
-    rw (p.1, p.2) (fields_then s (replicate (length old.messages) element) (replicate (length old.ldt) element ++ (replicate (length old.dot) element ++ (replicate (length old.quad_head) element ++ (replicate (length old.quad_tail) element)))) c.args.bytes.now (map field c.list_into.new.list) c.in_ok-messages.messages.now c.in_ok-messages.ensures.read
-    ∙ ap (behind (map field c.list_into.new.list)) (fields_then s (replicate (length old.ldt) element) (replicate (length old.dot) element ++ (replicate (length old.quad_head) element ++ (replicate (length old.quad_tail) element))) c.in_ok-messages.messages.now (map field c.list_into-2.new.list) c.in_ok-ldt.ldt.now c.in_ok-ldt.ensures.read
-    ∙ ap (behind (map field c.list_into-2.new.list)) (fields_then s (replicate (length old.dot) element) (replicate (length old.quad_head) element ++ (replicate (length old.quad_tail) element)) c.in_ok-ldt.ldt.now (map field c.list_into-3.new.list) c.in_ok-dot.dot.now c.in_ok-dot.ensures.read
-    ∙ ap (behind (map field c.list_into-3.new.list)) (fields_stop s (replicate (length old.quad_head) element) (replicate (length old.quad_tail) element) c.in_ok-dot.dot.now c.in_err-quad_head.field-0.0 c.in_err-quad_head.ensures.read))))
+pub returns-in_err-rest-clause-others : goal.returns-in_err-rest-clause-others
+returns-in_err-rest-clause-others g c = refl
 
-pub returns-in_err-quad_tail-clause-read : goal.returns-in_err-quad_tail-clause-read
-returns-in_err-quad_tail-clause-read g c =
+pub returns-in_err-rest-2-clause-read : goal.returns-in_err-rest-2-clause-read
+returns-in_err-rest-2-clause-read g c =
     let s = shape g.F.Field.coding.bytes g.F.Field.coding.size in
     let field = element_field g.F.Field.coding.bytes g.F.Field.coding.number in
-    let old = c.args.proof.now in
-    let p = err_from_is_err_and c.from_residual-in_err-quad_tail.result c.from_residual-in_err-quad_tail.ensures.1 in
-    rw (p.1, p.2) (fields_then s (replicate (length old.messages) element) (replicate (length old.ldt) element ++ (replicate (length old.dot) element ++ (replicate (length old.quad_head) element ++ (replicate (length old.quad_tail) element)))) c.args.bytes.now (map field c.list_into.new.list) c.in_ok-messages.messages.now c.in_ok-messages.ensures.read
-    ∙ ap (behind (map field c.list_into.new.list)) (fields_then s (replicate (length old.ldt) element) (replicate (length old.dot) element ++ (replicate (length old.quad_head) element ++ (replicate (length old.quad_tail) element))) c.in_ok-messages.messages.now (map field c.list_into-2.new.list) c.in_ok-ldt.ldt.now c.in_ok-ldt.ensures.read
-    ∙ ap (behind (map field c.list_into-2.new.list)) (fields_then s (replicate (length old.dot) element) (replicate (length old.quad_head) element ++ (replicate (length old.quad_tail) element)) c.in_ok-ldt.ldt.now (map field c.list_into-3.new.list) c.in_ok-dot.dot.now c.in_ok-dot.ensures.read
-    ∙ ap (behind (map field c.list_into-3.new.list)) (fields_then s (replicate (length old.quad_head) element) (replicate (length old.quad_tail) element) c.in_ok-dot.dot.now (map field c.list_into-4.new.list) c.in_ok-quad_head.quad_head.now c.in_ok-quad_head.ensures.read
-    ∙ ap (behind (map field c.list_into-4.new.list)) (c.in_err-quad_tail.ensures.read)))))
+    let one = c.lists_into.new in
+    let p = err_from_is_err_and c.from_residual-in_err-rest-2.result c.from_residual-in_err-rest-2.ensures.1 in
+    rw (p.1, p.2) (next_two_stop s c.args.proof.now c.args.bytes.now (map field one.one) (map field one.other) c.in_ok-rest.rest.now c.in_ok-rest.ensures.read c.in_err-rest-2.field-0.0 c.in_err-rest-2.ensures.read)
+
+pub returns-in_err-rest-2-clause-lengths : goal.returns-in_err-rest-2-clause-lengths
+returns-in_err-rest-2-clause-lengths g c = λ p h. same_lengths p c.args.proof.now _ h c.lists_into.ensures.one c.lists_into.ensures.other c.lists_into-2.ensures.one c.lists_into-2.ensures.other refl refl refl
+
+pub returns-in_err-rest-2-clause-others : goal.returns-in_err-rest-2-clause-others
+returns-in_err-rest-2-clause-others g c = refl
 
 pub returns-clause-read : goal.returns-clause-read
 returns-clause-read g c =
     let s = shape g.F.Field.coding.bytes g.F.Field.coding.size in
     let field = element_field g.F.Field.coding.bytes g.F.Field.coding.number in
-    let old = c.args.proof.now in
-    fields_then s (replicate (length old.messages) element) (replicate (length old.ldt) element ++ (replicate (length old.dot) element ++ (replicate (length old.quad_head) element ++ (replicate (length old.quad_tail) element)))) c.args.bytes.now (map field c.list_into.new.list) c.in_ok-messages.messages.now c.in_ok-messages.ensures.read
-    ∙ ap (behind (map field c.list_into.new.list)) (fields_then s (replicate (length old.ldt) element) (replicate (length old.dot) element ++ (replicate (length old.quad_head) element ++ (replicate (length old.quad_tail) element))) c.in_ok-messages.messages.now (map field c.list_into-2.new.list) c.in_ok-ldt.ldt.now c.in_ok-ldt.ensures.read
-    ∙ ap (behind (map field c.list_into-2.new.list)) (fields_then s (replicate (length old.dot) element) (replicate (length old.quad_head) element ++ (replicate (length old.quad_tail) element)) c.in_ok-ldt.ldt.now (map field c.list_into-3.new.list) c.in_ok-dot.dot.now c.in_ok-dot.ensures.read
-    ∙ ap (behind (map field c.list_into-3.new.list)) (fields_then s (replicate (length old.quad_head) element) (replicate (length old.quad_tail) element) c.in_ok-dot.dot.now (map field c.list_into-4.new.list) c.in_ok-quad_head.quad_head.now c.in_ok-quad_head.ensures.read
-    ∙ ap (behind (map field c.list_into-4.new.list)) (c.in_ok-quad_tail.ensures.read))))
+    let one = c.lists_into.new in
+    let two = c.lists_into-2.new in
+    answers_read s c.args.proof.now c.args.bytes.now (map field one.one) (map field one.other) c.in_ok-rest.rest.now c.in_ok-rest.ensures.read (map field two.one) (map field two.other) c.in_ok-rest-2.rest.now c.in_ok-rest-2.ensures.read
+    (map field c.list_into.new.list) c.list_into.result c.list_into.ensures.read
+
+pub returns-clause-lengths : goal.returns-clause-lengths
+returns-clause-lengths g c = λ p h. same_lengths p c.args.proof.now _ h c.lists_into.ensures.one c.lists_into.ensures.other c.lists_into-2.ensures.one c.lists_into-2.ensures.other c.list_into.ensures.length refl refl
+
+pub returns-clause-others : goal.returns-clause-others
+returns-clause-others g c = refl

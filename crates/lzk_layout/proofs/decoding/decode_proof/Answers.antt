@@ -1,6 +1,6 @@
 use Rattle.std.proofs.Common.{refl}
 use Rattle.lzk_layout.specs.Fields.{shape}
-use Rattle.lzk_layout.proofs.Faults.{proof_left, fault_found}
+use Rattle.lzk_layout.proofs.Faults.{proof_left, fault_found, one_fault}
 use Rattle.lzk_layout.proofs.Lengths.{file_length}
 use Rattle.lzk_layout.proofs.OneProof.{proof_takes, one_proof, no_proof, no_fault}
 use Rattle.lzk_layout.proofs.ReadProof.{some_proof}
@@ -58,3 +58,27 @@ returns-in-Ok-clause-some_proof g c = some_proof g.F.Field.ops g.F.Field.coding.
 
 pub returns-in-Err-clause-some_proof : goal.returns-in-Err-clause-some_proof
 returns-in-Err-clause-some_proof g c = some_proof g.F.Field.ops g.F.Field.coding.size g.F.Field.coding.number g.F.Field.coding.element g.F.Field.coding.bytes g.F.Field.laws c.args.params.now
+
+pub file_into-requires-clause-lengths : goal.file_into-requires-clause-lengths
+file_into-requires-clause-lengths g c κs within = c.requires.lengths
+
+pub file_into-requires-clause-room : goal.file_into-requires-clause-room
+file_into-requires-clause-room g c κs within = c.requires.room
+
+pub returns-in-Ok-clause-lengths : goal.returns-in-Ok-clause-lengths
+returns-in-Ok-clause-lengths g c = c.in-Ok.ensures.lengths
+
+pub returns-in-Ok-clause-room : goal.returns-in-Ok-clause-room
+returns-in-Ok-clause-room g c = c.in-Ok.ensures.room
+
+pub returns-in-Ok-clause-one_fault : goal.returns-in-Ok-clause-one_fault
+returns-in-Ok-clause-one_fault g c = one_fault (shape g.F.Field.coding.bytes g.F.Field.coding.size) c.args.params.now
+
+pub returns-in-Err-clause-lengths : goal.returns-in-Err-clause-lengths
+returns-in-Err-clause-lengths g c = c.in-Err.ensures.lengths
+
+pub returns-in-Err-clause-room : goal.returns-in-Err-clause-room
+returns-in-Err-clause-room g c = c.in-Err.ensures.room
+
+pub returns-in-Err-clause-one_fault : goal.returns-in-Err-clause-one_fault
+returns-in-Err-clause-one_fault g c = one_fault (shape g.F.Field.coding.bytes g.F.Field.coding.size) c.args.params.now

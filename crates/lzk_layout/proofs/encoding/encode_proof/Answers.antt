@@ -1,4 +1,5 @@
-use Rattle.std.proofs.Common.{ℕ, ◌+◌, ◌*◌, ◌++◌, ◌≤◌, length, take, arith, sym, ap, ◌∙◌}
+use Rattle.lzk_profile.specs.Profile.{opened_count}
+use Rattle.std.proofs.Common.{refl, ℕ, ◌+◌, ◌*◌, ◌++◌, ◌≤◌, length, take, arith, sym, ap, ◌∙◌}
 use Rattle.std.proofs.lemmas.List.{take_all}
 use Rattle.lzk_layout.specs.Proofs.{flat, element_field, opened_fields}
 use Rattle.lzk_layout.proofs.FileLaws.{file_parts, file_end}
@@ -36,3 +37,45 @@ returns-clause-file g c =
 
 pub returns-clause-one_file : goal.returns-clause-one_file
 returns-clause-one_file g c = one_file g.F.Field.coding.bytes g.F.Field.coding.number c.args.params.now
+
+pub put_head-end-requires-after_bounds : goal.put_head-end-requires-after_bounds
+put_head-end-requires-after_bounds g c κs within =
+    let p = c.args.params.now in
+    let q = c.args.proof.now in
+    let has = c.requires.lengths in
+    let whole = file_end g.F.Field.coding.bytes (length q.path.digests) _ _ _ opened_count p q has refl refl refl refl in
+    omega (arith, whole, c.requires.room)
+
+pub put_answers-end-requires-after_bounds : goal.put_answers-end-requires-after_bounds
+put_answers-end-requires-after_bounds g c κs within =
+    let p = c.args.params.now in
+    let q = c.args.proof.now in
+    let has = c.requires.lengths in
+    let whole = file_end g.F.Field.coding.bytes (length q.path.digests) _ _ _ opened_count p q has refl refl refl refl in
+    omega (arith, whole, c.requires.room, c.put_head-end.ensures.end, c.put_head-end.ensures.length)
+
+pub put_opened-end-requires-clause-columns : goal.put_opened-end-requires-clause-columns
+put_opened-end-requires-clause-columns g c κs within =
+    let has = c.requires.lengths in
+    ap length c.as_slice-2.ensures ∙ has.columns ∙ ap (λ (n : ℕ). n * c.args.params.now.nrow) (sym (ap length c.as_slice.ensures ∙ has.nonces))
+
+pub put_opened-end-requires-clause-room : goal.put_opened-end-requires-clause-room
+put_opened-end-requires-clause-room g c κs within =
+    let p = c.args.params.now in
+    let q = c.args.proof.now in
+    let has = c.requires.lengths in
+    let whole = file_end g.F.Field.coding.bytes (length q.path.digests) _ _ _ opened_count p q has refl refl refl refl in
+    let columns = ap (λ (n : ℕ). n * (32 + g.F.Field.coding.bytes * p.nrow)) (ap length c.as_slice.ensures ∙ has.nonces) in
+    omega (arith, whole, columns, c.requires.room, c.put_head-end.ensures.end, c.put_head-end.ensures.length, c.put_answers-end.ensures.end, c.put_answers-end.ensures.length)
+
+pub put_path-requires-clause-few : goal.put_path-requires-clause-few
+put_path-requires-clause-few g c κs within = c.requires.few
+
+pub put_path-requires-clause-room : goal.put_path-requires-clause-room
+put_path-requires-clause-room g c κs within =
+    let p = c.args.params.now in
+    let q = c.args.proof.now in
+    let has = c.requires.lengths in
+    let whole = file_end g.F.Field.coding.bytes (length q.path.digests) _ _ _ opened_count p q has refl refl refl refl in
+    let columns = ap (λ (n : ℕ). n * (32 + g.F.Field.coding.bytes * p.nrow)) (ap length c.as_slice.ensures ∙ has.nonces) in
+    omega (arith, whole, columns, c.requires.room, c.put_head-end.ensures.end, c.put_head-end.ensures.length, c.put_answers-end.ensures.end, c.put_answers-end.ensures.length, c.put_opened-end.ensures.end, c.put_opened-end.ensures.length)

@@ -1,6 +1,4 @@
-use Rattle.std.proofs.Common.{rules, ◌≡◌, ℕ, ◌+◌, ◌<◌, ◌≤◌, arith}
-use Rattle.lzk_circuit.specs.Bits.{bits}
-use Rattle.lzk_layout.specs.Places.{depth, width_at}
+use Rattle.std.proofs.Common.{rules, arith}
 use Rattle.lzk_layout.proofs.places.most_bits.Goals as goal
 use Rattle.lzk_layout.proofs.places.most_bits.Goals.{then-most-bits, else-most-bits}
 

@@ -3,7 +3,8 @@ use Rattle.std.proofs.lemmas.List.{length-take, length-drop}
 use Rattle.std.proofs.lemmas.Result.{err_from_is_err_and}
 use Rattle.lzk_layout.specs.Proofs.{element_field, opened_fields}
 use Rattle.lzk_layout.specs.Fields.{shape}
-use Rattle.lzk_layout.proofs.OpenedLaws.{column_inside, nonce_ends, column_ends, column_read, opened_more, columns_done, digests_set}
+use Rattle.lzk_layout.proofs.FieldLaws.{not_on_ok}
+use Rattle.lzk_layout.proofs.OpenedLaws.{no_more, next_place, column_inside, nonce_ends, column_ends, column_read, opened_more, columns_done, digests_set}
 use Rattle.lzk_layout.proofs.reading.opened_into.Goals as goal
 
 pub returns-in_err-nonce-clause-read : goal.returns-in_err-nonce-clause-read
@@ -42,7 +43,7 @@ loop-i-preserved g c =
     let long : length column ≡ rows = omega (arith, c.elements_into.auto.out) in
     let wide : length c.loop-i.columns ≡ n * rows = omega arith in
     record {
-      at = grind (arith, c.loop-i.invariant.at);
+      at = next_place c.loop-i.i c.args.rows c.loop-i.at c.loop-i.invariant.at;
       digests = digests_set c.loop-i.nonces c.in_ok-nonce.nonce.now c.loop-i.i (omega arith) c.in_ok-nonce.ensures.length c.loop-i.invariant.digests;
       read = rw (opened_more field rows n c.loop-i.i c.loop-i.at (c.loop-i.at + rows - c.loop-i.at) c.loop-i.nonces c.loop-i.columns column c.in_ok-nonce.nonce.now c.loop-i-test.true (omega arith) wide c.loop-i.invariant.at long)
           (column_read field s rows n c.loop-i.i _ so_far c.loop-i.rest.now c.loop-i-test.true c.loop-i.invariant.read
@@ -59,3 +60,21 @@ returns-clause-read g c =
 
 pub returns-clause-digests : goal.returns-clause-digests
 returns-clause-digests g c = λ k lt. c.loop-i.invariant.digests k (omega arith)
+
+pub returns-in_err-nonce-clause-digests : goal.returns-in_err-nonce-clause-digests
+returns-in_err-nonce-clause-digests g c = not_on_ok _ c.from_residual.result _ c.from_residual.ensures.1
+
+pub returns-in_err-rest-clause-digests : goal.returns-in_err-rest-clause-digests
+returns-in_err-rest-clause-digests g c = not_on_ok _ c.from_residual-in_err-rest.result _ c.from_residual-in_err-rest.ensures.1
+
+pub bounds-nonces-i : goal.bounds-nonces-i
+bounds-nonces-i g c = omega (arith, c.loop-i-test.true, c.loop-i.auto.nonces)
+
+pub slice_bounds-elements_into-end : goal.slice_bounds-elements_into-end
+slice_bounds-elements_into-end g c = omega (arith, column_inside c.loop-i.i (length c.args.nonces.now) c.args.rows c.loop-i-test.true, c.loop-i.invariant.at, c.loop-i.auto.columns, c.requires)
+
+pub slice_bounds-elements_into-start : goal.slice_bounds-elements_into-start
+slice_bounds-elements_into-start g c = no_more c.loop-i.at c.args.rows
+
+pub slice_bounds-elements_into-count : goal.slice_bounds-elements_into-count
+slice_bounds-elements_into-count g c = no_more c.loop-i.at c.args.rows

@@ -14,7 +14,7 @@ pub returns-in-Some-clause-pushed : goal.returns-in-Some-clause-pushed
 returns-in-Some-clause-pushed g c = λ p b h.
     let s = shape g.F.Field.coding.bytes g.F.Field.coding.size in
     closed s p (b ++ c.args.byte ∷ []) (Some c.in-Some.fault) c.self.inside.fault c.self.inside.reading c.args.self.now c.self.view_is c.in-Some.is
-    (faulty_pushed s p b c.args.byte c.in-Some.fault c.self.inside.reading (opened s p b (Some c.in-Some.fault) c.self.inside.fault c.self.inside.reading c.args.self.now c.self.view_is c.in-Some.is h) (omega arith))
+    (faulty_pushed s p b c.args.byte c.in-Some.fault c.self.inside.reading (opened s p b (Some c.in-Some.fault) c.self.inside.fault c.self.inside.reading c.args.self.now c.self.view_is c.in-Some.is h) (omega (arith, c.ranges.byte)))
 
 pub returns-in-Some-clause-field : goal.returns-in-Some-clause-field
 returns-in-Some-clause-field g c = λ p b h part block n.
@@ -59,7 +59,7 @@ returns-in-Fault-clause-pushed g c =
     let some : 1 ≤ g.F.Field.coding.bytes = g.F.Field.laws.numbers.some_bytes in
     let none = no_some c.self.inside.fault c.in_default.not-Some in
     step_pushed s few some c.args.byte c.self.inside.fault c.self.inside.reading c.take-step.new.self c.args.self.now c.self.view_is none c.self.invariant
-    (Fault c.in-Fault.fault) c.in-Fault.ensures.takes (omega arith) c.in-Fault.ensures.params
+    (Fault c.in-Fault.fault) c.in-Fault.ensures.takes (omega (arith, c.ranges.byte)) c.in-Fault.ensures.params
 
 pub returns-in-Fault-clause-field : goal.returns-in-Fault-clause-field
 returns-in-Fault-clause-field g c =
@@ -124,7 +124,7 @@ returns-in_default-step g c =
     let kept : fault_behind c.take-step.result ≡ c.self.inside.fault = behind ∙ sym none in
     record {
       pushed = λ p b h. closed s p (b ++ c.args.byte ∷ []) (fault_behind c.take-step.result) c.self.inside.fault c.take-step.new.self (state_of c.self.inside.fault c.take-step.new.self) refl (sym kept)
-          (step_pushed s few some c.args.byte c.self.inside.fault c.self.inside.reading c.take-step.new.self c.args.self.now c.self.view_is none c.self.invariant c.take-step.result c.take-step.ensures.takes (omega arith) params p b h);
+          (step_pushed s few some c.args.byte c.self.inside.fault c.self.inside.reading c.take-step.new.self c.args.self.now c.self.view_is none c.self.invariant c.take-step.result c.take-step.ensures.takes (omega (arith, c.ranges.byte)) params p b h);
       field = λ p b h part block n. step_is s p b c.args.byte c.take-step.result (Field part block n) (says p b h);
       fault = λ p b h fault. step_is s p b c.args.byte c.take-step.result (Fault fault) (says p b h);
       more = λ p b h. step_is s p b c.args.byte c.take-step.result More (says p b h);
@@ -137,3 +137,12 @@ returns-in_default-step g c =
       fields = λ p. fields_stand s p;
       parts = λ p. parts_stand p;
     }
+
+pub take-step-requires-after_bounds : goal.take-step-requires-after_bounds
+take-step-requires-after_bounds g c κs within = c.self.invariant (no_some c.self.inside.fault c.in_default.not-Some)
+
+pub returns-in-Some-clause-params : goal.returns-in-Some-clause-params
+returns-in-Some-clause-params g c = refl
+
+pub returns-in-Fault-clause-params : goal.returns-in-Fault-clause-params
+returns-in-Fault-clause-params g c = c.in-Fault.ensures.params ∙ ap (λ (x : CursorState). x.params) c.self.view_is
