@@ -7,3 +7,4 @@ pub mod Splits
 pub mod Subspaces
 pub mod TwiddleLaws
 pub mod Uniqueness
+pub mod Writes

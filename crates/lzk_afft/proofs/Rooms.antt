@@ -1,8 +1,9 @@
 -- A room with coefficients, and zeros after them.
-use Rattle.std.specs.Prelude.{[], ◌∷◌, ◌≡◌, ◌≢◌, ◌++◌, ℕ, ◌<◌, ◌≤◌, ◌+◌, ◌-◌, ◌*◌, ◌/◌, ◌%◌, ◌^◌, List, length, take}
+use Rattle.std.specs.Prelude.{[], ◌∷◌, ◌≡◌, ◌≢◌, ◌++◌, ℕ, ◌<◌, ◌≤◌, ◌+◌, ◌-◌, ◌*◌, ◌/◌, ◌%◌, ◌^◌, Bool, true, false, ◌==◌, List, length, min, max, take}
 use Rattle.std.proofs.Common.{zero, suc, refl, sym, ap, ◌∙◌, arith, subst}
+use Rattle.std.proofs.lemmas.Bool.{eqb-true, eqb-false}
 use Rattle.std.proofs.Math.Pow.{pow_mono}
-use Rattle.std.proofs.Math.Nat.{div-lt_iff_lt-mul, mul-le-mul_right}
+use Rattle.std.proofs.Math.Nat.{div-add-mod, div-lt_iff_lt-mul, mod-lt, mul_comm, mul-le-mul_right}
 use Rattle.std.proofs.lemmas.Nat.{pow-add, one_shl}
 use Rattle.std.proofs.lemmas.List.{get_or-take, length-take-le}
 use Rattle.lzk_field.specs.Ring.{Ops, RingLaws, Laws}
@@ -13,6 +14,7 @@ use Rattle.lzk_poly.specs.Products.{IsBinary}
 use Rattle.lzk_field.proofs.Numbering.{zero_element}
 use Rattle.lzk_afft.specs.Basis.{basis_sum, AreCoefficients}
 use Rattle.lzk_afft.specs.Blocks.{AreTwiddles, HasFactors, IsBlock, IsLeastPower}
+use Rattle.lzk_afft.proofs.Levels.{halves, node_within}
 use Rattle.lzk_afft.proofs.Splits.{basis_sum-ext, basis_sum-cut, positive}
 use Rattle.lzk_afft.proofs.TwiddleLaws.{sub_block}
 
@@ -122,3 +124,40 @@ module _ {A : Type 0} (o : Ops A) (r : RingLaws o) where
       firsts i l ∙ ap (λ v. minus o v (o.times twiddle (entry o last_high i))) (low_is i l) ∙ ap (λ v. minus o (o.plus (entry o low i) (o.times twiddle (entry o high i))) (o.times twiddle v)) (high_is i l)
       ∙ solve o r (entry o low i ∷ entry o high i ∷ twiddle ∷ []) ((L ⊞ F ⊠ H) ⊟ F ⊠ H) L refl ∙ lows i l)
       (λ i h. let l : i < half = omega arith in high_is i l ∙ highs i l ∙ ap (λ n. entry o room (n + i)) (sym front))
+
+-- what a test for emptiness says
+pub empty_none : (r : Bool) (n : ℕ) → r ≡ (n == 0) → r ≡ true → n ≡ 0
+empty_none r n e t = eqb-true n 0 (sym e ∙ t)
+
+pub filled_some : (r : Bool) (n : ℕ) → r ≡ (n == 0) → r ≡ false → 0 < n
+filled_some r n e f = let differ : n ≡ 0 → ⊥ = eqb-false n 0 (sym e ∙ f) in omega (arith, differ)
+
+-- what is skipped of a block is less than a block
+pub rest_small : (from size : ℕ) → 0 < size → from - from / size * size < size
+rest_small from size h = omega (arith, div-add-mod from size, mul_comm (from / size) size, mod-lt from {m = size} h)
+
+-- the node of a block of several points is a place of the twiddle factors
+pub node_in : {A : Type 0} (bits node : ℕ) (values twiddles : List A) → HasFactors bits node values twiddles → 0 < bits → node < length twiddles
+node_in bits node values twiddles factors h =
+    let half = halves bits (length values) factors.0 h in
+    node_within node (length values) (length twiddles) (omega (arith, half.1, half.2, positive (bits - 1))) factors.1
+
+-- Of so many points after those that are skipped, the ones before lie in the lower half, and the others in the upper.
+pub lower_inside : (out half skip lowest before : ℕ) → lowest ≡ min skip half → before ≡ min out (half - lowest) → lowest + before ≤ half
+lower_inside out half skip lowest before e f = omega (arith, e, f)
+
+pub upper_inside : (size out half skip lowest before highest : ℕ) → lowest ≡ min skip half → before ≡ min out (half - lowest) → highest ≡ max skip half → skip + out ≤ size → highest - half + (out - before) ≤ size - half
+upper_inside size out half skip lowest before highest e f g h = omega (arith, e, f, g, h)
+
+pub lower_skip : (k out half skip lowest before again : ℕ) → lowest ≡ min skip half → before ≡ min out (half - lowest) → again ≡ min skip half → k < before → again ≡ skip
+lower_skip k out half skip lowest before again e f g h = omega (arith, e, f, g, h)
+
+pub upper_place : (at k out half skip lowest before highest : ℕ) → lowest ≡ min skip half → before ≡ min out (half - lowest) → highest ≡ max skip half → k < out - before → at + half + (highest - half + k) ≡ at + (skip + (before + k))
+upper_place at k out half skip lowest before highest e f g h = omega (arith, e, f, g, h)
+
+-- their places in the halves
+pub lower_reached : (k half lowest before again : ℕ) → lowest + before ≤ half → again ≡ lowest → k < before → again + k < half
+lower_reached k half lowest before again e f g = omega (arith, e, f, g)
+
+pub upper_reached : (k size out half before highest : ℕ) → highest - half + (out - before) ≤ size - half → k < out - before → size ≡ half + half → highest - half + k < half
+upper_reached k size out half before highest e f g = omega (arith, e, f, g)

@@ -9,3 +9,4 @@ pub mod RootLaws
 pub mod Spectra
 pub mod Transforms
 pub mod Twiddles
+pub mod Writes

@@ -165,3 +165,8 @@ next_fits v parts size h =
 
 pub length_part : {A : Type 0} (xs : List A) (a n : ℕ) → a + n ≤ length xs → length (take n (drop a xs)) ≡ n
 length_part xs a n h = length-take-le n (drop a xs) (omega (arith, length-drop a xs))
+
+-- the end of a part that begins below a small number
+pub next_small : (v size : ℕ) → v * size < 65536 → size < 18446744073709551616 → v * size + size < 18446744073709551616
+next_small zero size h l = omega (arith, l)
+next_small (suc v) size h l = omega (arith, h, suc-mul v size)

@@ -62,13 +62,13 @@ fn scaled<F: Field>(inverses: &[F], place: usize, scale: F) -> F
     }
 }
 
-// The forward transform of the inverses of the points from `first` on, each times the scale.
+// The forward transform of the inverses of the points from `first` on, each times the scale, as factors.
 fn kernel<F: Factor>(
     alloc: Global,
     cut: &Cut<'_, F>,
     scale: F,
     first: usize,
-) -> Result<Vec<F>, AllocError>
+) -> Result<Vec<Prepared<F>>, AllocError>
     requires positive { 1 ≤ first }
     requires few { first ≤ 65536 }
     ensures { let d = cut.now.transform.now in IfOk result (λ v.
@@ -84,7 +84,7 @@ fn kernel<F: Factor>(
         list.push(scaled(inverses, first + t, scale))?;
     }
     transform.forward(&mut list);
-    Ok(list)
+    prepare(alloc, &list)
 }
 
 /// The transformed kernels of each block and each piece, one after the other. The backward transform's factor
@@ -105,8 +105,7 @@ pub(crate) fn kernel_spectra<F: Factor>(
         let end = (v * plan.block + plan.block).min(plan.count);
         for p in 0..plan.pieces {
             let from = plan.count + p * plan.piece;
-            let list = kernel(alloc, cut, scale, from + 1 - end)?;
-            let factors = prepare(alloc, &list)?;
+            let factors = kernel(alloc, cut, scale, from + 1 - end)?;
             all.extend_from_slice(&factors)?;
         }
     }

@@ -1,12 +1,12 @@
-use Rattle.std.proofs.Common.{rules, ◌≡◌, ℕ, ◌+◌, ◌-◌, ◌*◌, ◌/◌, ◌%◌, ◌<◌, ◌≤◌, ◌^◌, length, sym, ap, ◌∙◌, arith, subst}
+use Rattle.std.proofs.Common.{◌≡◌, ℕ, ◌+◌, ◌-◌, ◌*◌, ◌/◌, ◌%◌, ◌<◌, ◌≤◌, ◌^◌, length, refl, sym, ap, ◌∙◌, arith, subst}
 use Rattle.std.proofs.Math.Nat.{div-mul-le_self}
 use Rattle.std.proofs.lemmas.Nat.{one_shl}
 use Rattle.lzk_field.specs.Sums.{entry}
 use Rattle.lzk_field.proofs.EntryLaws.{entries_joined}
 use Rattle.lzk_afft.specs.Basis.{basis_sum}
 use Rattle.lzk_afft.specs.Blocks.{IsBlock}
-use Rattle.lzk_afft.proofs.Rooms.{block_within, node_room, block_at, full_few}
-use Rattle.lzk_afft.proofs.Splits.{basis_sum-ext}
+use Rattle.lzk_afft.proofs.Rooms.{block_within, node_room, block_at, full_few, empty_none, filled_some, rest_small}
+use Rattle.lzk_afft.proofs.Splits.{basis_sum-ext, positive}
 use Rattle.lzk_afft.proofs.points.+evaluate.Goals as goal
 
 pub evaluate_block-requires-clause-factors : goal.evaluate_block-requires-clause-factors
@@ -14,7 +14,7 @@ evaluate_block-requires-clause-factors g t c κs within =
     let size = length c.args.room.now in
     let bits = c.args.bits in
     let depth = c.args.depth in
-    let some : 0 < length c.args.out.now = search rules in
+    let some = filled_some c.is_empty.result (length c.args.out.now) c.is_empty.ensures c.if-is_empty.false in
     let block : c.args.from / size < 2 ^ (depth - bits) = block_within bits depth c.args.from size c.requires.order c.requires.whole (omega (arith, c.requires.reached)) in
     let room = node_room bits depth (c.args.from / size) size c.requires.order c.requires.whole block in
     let power : 1 * 2 ^ (depth - bits) % 18446744073709551616 ≡ 2 ^ (depth - bits) = one_shl (depth - bits) 64 (omega (arith, c.requires.block.few)) in
@@ -33,7 +33,7 @@ returns-clause-values g t c =
     let depth = c.args.depth in
     let from = c.args.from in
     let index = from / size in
-    let some : 0 < length c.args.out.now = search rules in
+    let some = filled_some c.is_empty.result (length c.args.out.now) c.is_empty.ensures c.if-is_empty.false in
     let block : index < 2 ^ (depth - bits) = block_within bits depth from size c.requires.order c.requires.whole (omega (arith, c.requires.reached)) in
     let power : 1 * 2 ^ (depth - bits) % 18446744073709551616 ≡ 2 ^ (depth - bits) = one_shl (depth - bits) 64 (omega (arith, c.requires.block.few)) in
     let here : IsBlock o element bits (index * 2 ^ bits) (1 * 2 ^ (depth - bits) % 18446744073709551616 + index) c.args.twiddles.now =
@@ -52,3 +52,35 @@ returns-clause-values g t c =
 
 pub returns-clause-same : goal.returns-clause-same
 returns-clause-same g t c = λ k h. c.evaluate.ensures.same k h ∙ c.evaluate_block.ensures.same k (omega (arith, h, c.evaluate.auto.room))
+
+pub returns-then-is_empty-clause-values : goal.returns-then-is_empty-clause-values
+returns-then-is_empty-clause-values g t c = λ k h. absurd (omega (arith, h, empty_none c.is_empty.result (length c.args.out.now) c.is_empty.ensures c.if-is_empty.true))
+
+pub returns-then-is_empty-clause-same : goal.returns-then-is_empty-clause-same
+returns-then-is_empty-clause-same g t c = λ k h. refl
+
+pub overflow_mul-skip : goal.overflow_mul-skip
+overflow_mul-skip g t c =
+    omega (arith, div-mul-le_self c.args.from (length c.args.room.now), c.requires.reached, c.requires.twiddles, full_few c.args.depth c.args.twiddles.now c.requires.block.few c.requires.twiddles)
+
+pub overflow_sub-skip : goal.overflow_sub-skip
+overflow_sub-skip g t c = div-mul-le_self c.args.from (length c.args.room.now)
+
+pub evaluate_block-requires-clause-inside : goal.evaluate_block-requires-clause-inside
+evaluate_block-requires-clause-inside g t c κs within =
+    let small = rest_small c.args.from (length c.args.room.now) (omega (arith, c.requires.whole, positive c.args.bits)) in
+    omega (arith, small, c.min-count.ensures, c.split_at_mut-first.ensures.front_len)
+
+pub evaluate-requires-clause-reached : goal.evaluate-requires-clause-reached
+evaluate-requires-clause-reached g t c κs within = omega (arith, c.requires.reached, c.min-count.ensures, c.split_at_mut-first.ensures.back_len)
+
+pub evaluate-requires-clause-whole : goal.evaluate-requires-clause-whole
+evaluate-requires-clause-whole g t c κs within = c.evaluate_block.auto.room ∙ c.requires.whole
+
+pub overflow_sub-size : goal.overflow_sub-size
+overflow_sub-size g t c =
+    let small = rest_small c.args.from (length c.args.room.now) (omega (arith, c.requires.whole, positive c.args.bits)) in
+    omega (arith, small)
+
+pub split_at_mut-first-requires : goal.split_at_mut-first-requires
+split_at_mut-first-requires g t c = omega (arith, c.min-count.ensures)

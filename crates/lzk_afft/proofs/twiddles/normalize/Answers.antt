@@ -2,6 +2,7 @@ use Rattle.std.proofs.Common.{◌≡◌, ◌+◌, ◌^◌, sym, ap, ◌∙◌, a
 use Rattle.std.proofs.lemmas.List.{get_or_default}
 use Rattle.lzk_field.specs.Sums.{entry}
 use Rattle.lzk_afft.specs.Basis.{normalized, vanishing}
+use Rattle.lzk_afft.proofs.Writes.{read_at, written_more}
 use Rattle.lzk_afft.proofs.Subspaces.{vanishing_nonzero}
 use Rattle.lzk_afft.proofs.twiddles.normalize.Goals as goal
 
@@ -30,3 +31,16 @@ returns g c =
     c.loop-i.invariant i (omega arith)
     ∙ ap (λ v. o.times v c.in-Some.inverse) (ap (entry o images) place ∙ c.requires.images.1 (i + (from + 1)) (omega arith))
     ∙ ap (o.times (vanishing o point from (point (2 ^ (i + (from + 1)))))) inverse
+
+pub loop-i-init : goal.loop-i-init
+loop-i-init g c = λ i h. absurd (omega (arith, h))
+
+pub loop-i-preserved : goal.loop-i-preserved
+loop-i-preserved g c =
+    let o = g.F.Field.ops in
+    let images = c.args.images.now in
+    let from = c.args.from in
+    let inverse = c.in-Some.inverse in
+    let i = c.loop-i.i in
+    written_more o (λ k y. y ≡ o.times (entry o images (from + 1 + k)) inverse) c.loop-i.scaled i c.mul.result (omega (arith, c.loop-i-test.true, c.loop-i.auto.scaled, c.requires.scaled)) c.loop-i.invariant
+    (c.mul.ensures ∙ ap (λ w. o.times w inverse) (read_at o images (from + 1 + i) c.index-images-first-in-loop-i.result (omega (arith, c.loop-i-test.true)) c.index-images-first-in-loop-i.is))

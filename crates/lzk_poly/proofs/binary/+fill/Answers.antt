@@ -1,7 +1,7 @@
 use Rattle.std.proofs.Common.{◌≡◌, ℕ, ◌+◌, ◌-◌, ◌/◌, suc, length, ap, ◌∙◌, arith, sym, subst}
 use Rattle.lzk_field.specs.Sums.{entry}
 use Rattle.lzk_poly.specs.Products.{spread, IsAligned, IsBinary}
-use Rattle.lzk_poly.proofs.BinaryProducts.{below_high, below_low, fill_high, fill_low, fill_whole, halves}
+use Rattle.lzk_poly.proofs.BinaryProducts.{below_binary, below_high, below_low, fill_high, fill_low, fill_whole, halves}
 use Rattle.lzk_field.proofs.Numbering.{zero_element}
 use Rattle.lzk_field.proofs.EntryLaws.{entries_joined}
 use Rattle.lzk_poly.proofs.binary.+fill.Goals as goal
@@ -16,7 +16,7 @@ returns-then-count-size g t c =
     (c.with_block.ensures (λ k. h (m.coding.element k)) running inverted)
 
 pub invariant_of-first-clause-whole : goal.invariant_of-first-clause-whole
-invariant_of-first-clause-whole g t c = let b = c.args.block.now in (halves b.bits b.size b.whole (omega arith)).1
+invariant_of-first-clause-whole g t c = let b = c.args.block.now in (halves b.bits b.size b.whole (omega (arith, c.if-count-eq0.false, c.if-count-size.false, c.requires.few))).1
 
 pub invariant_of-first-clause-runs : goal.invariant_of-first-clause-runs
 invariant_of-first-clause-runs g t c = omega (arith, c.args.block.now.runs)
@@ -27,11 +27,11 @@ invariant_of-first-clause-inverts g t c = omega (arith, c.args.block.now.inverts
 pub invariant_of-first-clause-aligned : goal.invariant_of-first-clause-aligned
 invariant_of-first-clause-aligned g t c =
     let b = c.args.block.now in
-    let half = halves b.bits b.size b.whole (omega arith) in
+    let half = halves b.bits b.size b.whole (omega (arith, c.if-count-eq0.false, c.if-count-size.false, c.requires.few)) in
     below_low g.F.Field.ops g.F.Field.laws.ring g.F.Field.coding.element b.bits b.base half.0 b.aligned
 
 pub invariant_of-second-clause-whole : goal.invariant_of-second-clause-whole
-invariant_of-second-clause-whole g t c = let b = c.args.block.now in (halves b.bits b.size b.whole (omega arith)).1
+invariant_of-second-clause-whole g t c = let b = c.args.block.now in (halves b.bits b.size b.whole (omega (arith, c.if-count-eq0.false, c.if-count-size.false, c.requires.few))).1
 
 pub invariant_of-second-clause-runs : goal.invariant_of-second-clause-runs
 invariant_of-second-clause-runs g t c = omega (arith, c.args.block.now.runs)
@@ -42,11 +42,11 @@ invariant_of-second-clause-inverts g t c = omega (arith, c.args.block.now.invert
 pub invariant_of-second-clause-aligned : goal.invariant_of-second-clause-aligned
 invariant_of-second-clause-aligned g t c =
     let b = c.args.block.now in
-    let half = halves b.bits b.size b.whole (omega arith) in
+    let half = halves b.bits b.size b.whole (omega (arith, c.if-count-eq0.false, c.if-count-size.false, c.requires.few)) in
     below_high g.F.Field.ops g.F.Field.laws.ring g.F.Field.coding.element b.bits b.base (b.size / 2) half.0 half.1 b.binary b.aligned
 
 pub invariant_of-first-else-count-half-clause-whole : goal.invariant_of-first-else-count-half-clause-whole
-invariant_of-first-else-count-half-clause-whole g t c = let b = c.args.block.now in (halves b.bits b.size b.whole (omega arith)).1
+invariant_of-first-else-count-half-clause-whole g t c = let b = c.args.block.now in (halves b.bits b.size b.whole (omega (arith, c.if-count-eq0.false, c.if-count-size.false, c.requires.few))).1
 
 pub invariant_of-first-else-count-half-clause-runs : goal.invariant_of-first-else-count-half-clause-runs
 invariant_of-first-else-count-half-clause-runs g t c = omega (arith, c.args.block.now.runs)
@@ -57,11 +57,11 @@ invariant_of-first-else-count-half-clause-inverts g t c = omega (arith, c.args.b
 pub invariant_of-first-else-count-half-clause-aligned : goal.invariant_of-first-else-count-half-clause-aligned
 invariant_of-first-else-count-half-clause-aligned g t c =
     let b = c.args.block.now in
-    let half = halves b.bits b.size b.whole (omega arith) in
+    let half = halves b.bits b.size b.whole (omega (arith, c.if-count-eq0.false, c.if-count-size.false, c.requires.few)) in
     below_low g.F.Field.ops g.F.Field.laws.ring g.F.Field.coding.element b.bits b.base half.0 b.aligned
 
 pub invariant_of-second-else-count-half-clause-whole : goal.invariant_of-second-else-count-half-clause-whole
-invariant_of-second-else-count-half-clause-whole g t c = let b = c.args.block.now in (halves b.bits b.size b.whole (omega arith)).1
+invariant_of-second-else-count-half-clause-whole g t c = let b = c.args.block.now in (halves b.bits b.size b.whole (omega (arith, c.if-count-eq0.false, c.if-count-size.false, c.requires.few))).1
 
 pub invariant_of-second-else-count-half-clause-runs : goal.invariant_of-second-else-count-half-clause-runs
 invariant_of-second-else-count-half-clause-runs g t c = omega (arith, c.args.block.now.runs)
@@ -72,18 +72,18 @@ invariant_of-second-else-count-half-clause-inverts g t c = omega (arith, c.args.
 pub invariant_of-second-else-count-half-clause-aligned : goal.invariant_of-second-else-count-half-clause-aligned
 invariant_of-second-else-count-half-clause-aligned g t c =
     let b = c.args.block.now in
-    let half = halves b.bits b.size b.whole (omega arith) in
+    let half = halves b.bits b.size b.whole (omega (arith, c.if-count-eq0.false, c.if-count-size.false, c.requires.few)) in
     below_high g.F.Field.ops g.F.Field.laws.ring g.F.Field.coding.element b.bits b.base (b.size / 2) half.0 half.1 b.binary b.aligned
 
 pub fill-requires-then-count-half-clause-whole : goal.fill-requires-then-count-half-clause-whole
 fill-requires-then-count-half-clause-whole g t c κs within =
     let b = c.args.block.now in
-    omega (arith, (halves b.bits b.size b.whole (omega arith)).2, c.split_at_mut-low.ensures.back_len)
+    omega (arith, (halves b.bits b.size b.whole (omega (arith, c.if-count-eq0.false, c.if-count-size.false, c.requires.few))).2, c.split_at_mut-low.ensures.back_len)
 
 pub fill-requires-else-count-half-2-clause-whole : goal.fill-requires-else-count-half-2-clause-whole
 fill-requires-else-count-half-2-clause-whole g t c κs within =
     let b = c.args.block.now in
-    omega (arith, (halves b.bits b.size b.whole (omega arith)).2, c.split_at_mut-low.ensures.back_len)
+    omega (arith, (halves b.bits b.size b.whole (omega (arith, c.if-count-eq0.false, c.if-count-size.false, c.requires.few))).2, c.split_at_mut-low.ensures.back_len)
 
 pub returns-then-count-half : goal.returns-then-count-half
 returns-then-count-half g t c =
@@ -109,7 +109,7 @@ returns-else-count-half g t c =
     let half = b.size / 2 in
     let low = c.fill-else-count-half.new.out in
     let high = c.fill-else-count-half-2.new.out in
-    let parts = halves bits b.size b.whole (omega arith) in
+    let parts = halves bits b.size b.whole (omega (arith, c.if-count-eq0.false, c.if-count-size.false, c.requires.few)) in
     let binary : IsBinary o m.coding.element (suc (bits - 1)) = subst (IsBinary o m.coding.element) (sym parts.0) b.binary in
     let aligned : IsAligned o m.coding.element (suc (bits - 1)) base = subst (λ (n : ℕ). IsAligned o m.coding.element n base) (sym parts.0) b.aligned in
     let front : length low ≡ half = omega (arith, c.split_at_mut-low.ensures.front_len) in
@@ -122,3 +122,59 @@ returns-else-count-half g t c =
     fill_high o m.laws.ring m.coding.element h (bits - 1) base c.args.count half i c.args.scale c.with_block-far.result (entry o high i) (zero_element m.laws.numbers) parts.1 binary aligned (omega arith) (omega (arith, parts.2)) (omega (arith, back))
     (c.with_block-far.ensures (λ k. h (m.coding.element k)) running inverted) (c.fill-else-count-half-2.ensures h running inverted i l)
     ∙ ap (λ k. o.times c.args.scale (spread o h m.coding.element c.args.count (m.coding.element k))) place)
+
+pub returns-then-count-eq0 : goal.returns-then-count-eq0
+returns-then-count-eq0 g t c =
+    let m = g.F.Field in
+    let o = m.ops in
+    let b = c.args.block.now in
+    let scale = c.args.scale in
+    let none : 0 ≡ c.args.count = omega (arith, c.if-count-eq0.true) in
+    λ h running inverted i l. c.set_all.ensures i l ∙ sym (m.laws.ring.times_one scale) ∙ ap (λ n. o.times scale (spread o h m.coding.element n (m.coding.element (b.base + i)))) none
+
+pub split_at_mut-low-requires : goal.split_at_mut-low-requires
+split_at_mut-low-requires g t c = omega (arith, c.requires.whole)
+
+pub invariant_of-first-clause-binary : goal.invariant_of-first-clause-binary
+invariant_of-first-clause-binary g t c = let b = c.args.block.now in below_binary g.F.Field.ops g.F.Field.laws.ring g.F.Field.coding.element b.bits b.binary
+
+pub invariant_of-second-clause-binary : goal.invariant_of-second-clause-binary
+invariant_of-second-clause-binary g t c = let b = c.args.block.now in below_binary g.F.Field.ops g.F.Field.laws.ring g.F.Field.coding.element b.bits b.binary
+
+pub invariant_of-first-else-count-half-clause-binary : goal.invariant_of-first-else-count-half-clause-binary
+invariant_of-first-else-count-half-clause-binary g t c =
+    let b = c.args.block.now in below_binary g.F.Field.ops g.F.Field.laws.ring g.F.Field.coding.element b.bits b.binary
+
+pub invariant_of-second-else-count-half-clause-binary : goal.invariant_of-second-else-count-half-clause-binary
+invariant_of-second-else-count-half-clause-binary g t c =
+    let b = c.args.block.now in below_binary g.F.Field.ops g.F.Field.laws.ring g.F.Field.coding.element b.bits b.binary
+
+pub fill-requires-clause-whole : goal.fill-requires-clause-whole
+fill-requires-clause-whole g t c κs within = c.split_at_mut-low.ensures.front_len
+
+pub fill-requires-clause-few : goal.fill-requires-clause-few
+fill-requires-clause-few g t c κs within = c.if-count-half.true
+
+pub fill-requires-then-count-half-clause-few : goal.fill-requires-then-count-half-clause-few
+fill-requires-then-count-half-clause-few g t c κs within = c.if-count-half.true
+
+pub fill-requires-else-count-half-clause-whole : goal.fill-requires-else-count-half-clause-whole
+fill-requires-else-count-half-clause-whole g t c κs within = c.split_at_mut-low.ensures.front_len
+
+pub fill-requires-else-count-half-clause-few : goal.fill-requires-else-count-half-clause-few
+fill-requires-else-count-half-clause-few g t c κs within = let b = c.args.block.now in omega (arith, c.requires.few, (halves b.bits b.size b.whole (omega (arith, c.if-count-eq0.false, c.if-count-size.false, c.requires.few))).2)
+
+pub fill-requires-else-count-half-2-clause-few : goal.fill-requires-else-count-half-2-clause-few
+fill-requires-else-count-half-2-clause-few g t c κs within = let b = c.args.block.now in omega (arith, c.requires.few, (halves b.bits b.size b.whole (omega (arith, c.if-count-eq0.false, c.if-count-size.false, c.requires.few))).2)
+
+pub overflow_sub-first : goal.overflow_sub-first
+overflow_sub-first g t c = let b = c.args.block.now in omega (arith, (halves b.bits b.size b.whole (omega (arith, c.if-count-eq0.false, c.if-count-size.false, c.requires.few))).0)
+
+pub overflow_sub-second : goal.overflow_sub-second
+overflow_sub-second g t c = let b = c.args.block.now in omega (arith, (halves b.bits b.size b.whole (omega (arith, c.if-count-eq0.false, c.if-count-size.false, c.requires.few))).0)
+
+pub overflow_sub-count : goal.overflow_sub-count
+overflow_sub-count g t c = omega (arith, c.if-count-half.false)
+
+pub overflow_sub-count-else-count-half : goal.overflow_sub-count-else-count-half
+overflow_sub-count-else-count-half g t c = omega (arith, c.if-count-half.false)

@@ -5,4 +5,5 @@ use Rattle.lzk_poly.proofs.quotients.fill_block.Given as goal
 abbrev pub invariant-loop-k : goal.invariant-loop-k
 invariant-loop-k g l =
     let o = g.F.Field.ops in
-    (k : ℕ) → k < l.k → entry o l.block k ≡ o.times (entry o l.values (length l.block - 1 - k)) (entry o l.weights (length l.block - 1 - k))
+    let last = length l.fn.block - 1 in
+    (k : ℕ) → k < l.k → entry o l.block k ≡ o.times (entry o l.values (last - k)) (entry o l.weights (last - k))

@@ -6,7 +6,7 @@ use Rattle.lzk_poly.specs.Weights.{part, passed, parts}
 use Rattle.lzk_poly.proofs.Blocks.{parts_extension}
 use Rattle.lzk_poly_ntt.specs.Kernels.{convolution, convolutions, end_of, from_of}
 use Rattle.lzk_poly_ntt.specs.Transform.{doubled}
-use Rattle.lzk_poly_ntt.proofs.Pieces.{block_adds, blocks_add}
+use Rattle.lzk_poly_ntt.proofs.Pieces.{block_adds, blocks_add, next_small}
 use Rattle.lzk_poly_ntt.proofs.blocks.extend_by.Goals as goal
 
 pub loop-p-preserved : goal.loop-p-preserved
@@ -62,3 +62,55 @@ loop-p-preserved g c =
           ∙ ap (o.times (parts o m.coding.element values (length values) x)) product
           ∙ parts_extension m.laws values j (omega (arith, row.count)) (omega (arith, reached, whole, planned.limit))
     ]
+
+pub loop-p-init : goal.loop-p-init
+loop-p-init g c = λ k h. absurd (omega (arith, h))
+
+pub returns : goal.returns
+returns g c =
+    let plan = c.args.row.now.kernels.now.plan in
+    let planned = c.args.row.now.kernels.now.ready.planned in
+    let all : plan.pieces ≡ c.loop-p.p = omega (arith, c.loop-p-test.false, c.loop-p.auto.p-end) in
+    let whole : plan.pieces * plan.piece ≡ c.loop-p.p * plan.piece = ap (λ p. p * plan.piece) all in
+    λ k h. c.loop-p.invariant k (omega (arith, h, whole, planned.pieces.all, c.loop-p.auto.out, c.requires.out)) h
+
+pub transform_blocks-requires-clause-spectra : goal.transform_blocks-requires-clause-spectra
+transform_blocks-requires-clause-spectra g c κs within =
+    let kernels = c.args.row.now.kernels.now in
+    let all : kernels.plan.blocks ≡ kernels.plan.blocks - 0 = omega arith in
+    c.requires.spectra ∙ ap (λ k. k * 2 ^ kernels.transform.bits) all
+
+pub sum_products-requires-clause-piece : goal.sum_products-requires-clause-piece
+sum_products-requires-clause-piece g c κs within = c.loop-p-test.true
+
+pub sum_products-requires-clause-spectra : goal.sum_products-requires-clause-spectra
+sum_products-requires-clause-spectra g c κs within = c.transform_blocks.auto.spectra ∙ c.requires.spectra
+
+pub sum_products-requires-clause-out : goal.sum_products-requires-clause-out
+sum_products-requires-clause-out g c κs within = c.loop-p.auto.convolved ∙ c.requires.convolved
+
+pub backward-requires-after_bounds : goal.backward-requires-after_bounds
+backward-requires-after_bounds g c = λ κs le. c.sum_products.auto.out ∙ c.loop-p.auto.convolved ∙ c.requires.convolved
+
+pub overflow_mul-at : goal.overflow_mul-at
+overflow_mul-at g c = let planned = c.args.row.now.kernels.now.ready.planned in omega (arith, planned.pieces.begins c.loop-p.p c.loop-p-test.true, planned.limit)
+
+pub overflow_sub-plan : goal.overflow_sub-plan
+overflow_sub-plan g c = c.args.row.now.kernels.now.ready.planned.some
+
+pub set_products-requires-clause-within : goal.set_products-requires-clause-within
+set_products-requires-clause-within g c κs within = omega (arith, c.min-to.ensures)
+
+pub set_products-requires-clause-factors : goal.set_products-requires-clause-factors
+set_products-requires-clause-factors g c κs within = omega (arith, c.min-to.ensures, c.args.row.now.passes.0, c.requires.out, c.loop-p.auto.out)
+
+pub set_products-requires-clause-enough : goal.set_products-requires-clause-enough
+set_products-requires-clause-enough g c κs within =
+    let planned = c.args.row.now.kernels.now.ready.planned in
+    omega (arith, planned.room, planned.some, planned.moves, c.min-to.ensures, c.backward.auto.values, c.sum_products.auto.out, c.loop-p.auto.convolved, c.requires.convolved)
+
+pub overflow_add-at : goal.overflow_add-at
+overflow_add-at g c =
+    let planned = c.args.row.now.kernels.now.ready.planned in
+    let small = next_small c.loop-p.p c.args.row.now.kernels.now.plan.piece (omega (arith, planned.pieces.begins c.loop-p.p c.loop-p-test.true, planned.limit)) (omega arith) in
+    omega (arith, small)

@@ -1,5 +1,6 @@
 use Rattle.std.proofs.Common.{◌≡◌, List, ◌+◌, ◌-◌, ◌*◌, ◌^◌, ◌<◌, ◌≤◌, take, drop, length, ap, ◌∙◌, arith, sym, subst}
 use Rattle.std.proofs.lemmas.List.{get_or-take, length-take-le}
+use Rattle.std.proofs.lemmas.Nat.{mul-le}
 use Rattle.lzk_field.specs.Sums.{entry}
 use Rattle.lzk_poly_ntt.specs.Kernels.{IsKernel, convolutions, end_of, from_of}
 use Rattle.lzk_poly_ntt.specs.Transform.{spectrum}
@@ -173,3 +174,65 @@ returns g c =
     let some : 0 < plan.blocks = blocks_some plan d.bits c.args.kernels.now.ready.planned in
     let all : c.loop-v.v ≡ plan.blocks = omega (arith, some) in
     λ values ws root known j h. c.loop-v.invariant values ws root known j h ∙ ap (λ n. spectrum m.ops d.bits d.root (convolutions m.ops m.coding.element d plan values ws c.args.p n) j) all
+
+pub overflow_mul-at : goal.overflow_mul-at
+overflow_mul-at g c =
+    let plan = c.args.kernels.now.plan in
+    let planned = c.args.kernels.now.ready.planned in
+    let blocks = covered_few plan.count plan.block plan.blocks planned.some planned.blocks in
+    let few = room_few c.loop-v.v c.size-size.result (omega (arith, blocks, planned.order, planned.limit, c.loop-v-test.true)) c.size-size.ensures.few in
+    omega (arith, few)
+
+pub overflow_mul-place-in-loop-v : goal.overflow_mul-place-in-loop-v
+overflow_mul-place-in-loop-v g c =
+    let plan = c.args.kernels.now.plan in
+    let planned = c.args.kernels.now.ready.planned in
+    let blocks = covered_few plan.count plan.block plan.blocks planned.some planned.blocks in
+    let pieces = covered_few (plan.upto - plan.count) plan.piece plan.pieces planned.moves planned.pieces in
+    let few = place_few c.loop-v.v plan.pieces (omega (arith, blocks, planned.order, planned.limit, c.loop-v-test.true)) (omega (arith, pieces, planned.limit)) in
+    let most = mul-le (c.loop-v.v * plan.pieces + c.args.p) c.size-size.result 4295032832 1048576 (omega (arith, few, pieces, planned.limit, c.requires.piece)) c.size-size.ensures.few in
+    omega (arith, most)
+
+pub overflow_add-place-in-loop-v : goal.overflow_add-place-in-loop-v
+overflow_add-place-in-loop-v g c =
+    let plan = c.args.kernels.now.plan in
+    let planned = c.args.kernels.now.ready.planned in
+    let blocks = covered_few plan.count plan.block plan.blocks planned.some planned.blocks in
+    let pieces = covered_few (plan.upto - plan.count) plan.piece plan.pieces planned.moves planned.pieces in
+    let few = place_few c.loop-v.v plan.pieces (omega (arith, blocks, planned.order, planned.limit, c.loop-v-test.true)) (omega (arith, pieces, planned.limit)) in
+    let most = mul-le (c.loop-v.v * plan.pieces + c.args.p) c.size-size.result 4295032832 1048576 (omega (arith, few, pieces, planned.limit, c.requires.piece)) c.size-size.ensures.few in
+    omega (arith, most, c.size-size.ensures.few)
+
+pub offset_bounds-spectra-at : goal.offset_bounds-spectra-at
+offset_bounds-spectra-at g c =
+    let plan = c.args.kernels.now.plan in
+    let n = c.size-size.result in
+    let spectra : length c.args.spectra.now ≡ plan.blocks * n = c.requires.spectra ∙ ap (λ k. plan.blocks * k) (sym c.size-size.ensures.value) in
+    omega (arith, spectra, next_fits c.loop-v.v plan.blocks n c.loop-v-test.true)
+
+pub offset_bounds-deref-place : goal.offset_bounds-deref-place
+offset_bounds-deref-place g c =
+    let d = c.args.kernels.now.transform in
+    let plan = c.args.kernels.now.plan in
+    let v = c.loop-v.v in
+    let kernel = c.args.kernels.now.ready.kernels v c.args.p c.loop-v-test.true c.requires.piece in
+    let there : (v * plan.pieces + c.args.p) * c.size-size.result ≡ (v * plan.pieces + c.args.p) * 2 ^ d.bits = ap (λ k. (v * plan.pieces + c.args.p) * k) c.size-size.ensures.value in
+    omega (arith, there, kernel.fits, ap length c.deref-in-loop-v.ensures.value)
+
+pub slice_bounds-add_multiples-end-in-loop-v : goal.slice_bounds-add_multiples-end-in-loop-v
+slice_bounds-add_multiples-end-in-loop-v g c =
+    let d = c.args.kernels.now.transform in
+    let plan = c.args.kernels.now.plan in
+    let v = c.loop-v.v in
+    let kernel = c.args.kernels.now.ready.kernels v c.args.p c.loop-v-test.true c.requires.piece in
+    let there : (v * plan.pieces + c.args.p) * c.size-size.result ≡ (v * plan.pieces + c.args.p) * 2 ^ d.bits = ap (λ k. (v * plan.pieces + c.args.p) * k) c.size-size.ensures.value in
+    omega (arith, there, c.size-size.ensures.value, kernel.fits, ap length c.deref-in-loop-v.ensures.value)
+
+pub slice_bounds-set_multiples-end : goal.slice_bounds-set_multiples-end
+slice_bounds-set_multiples-end g c =
+    let d = c.args.kernels.now.transform in
+    let plan = c.args.kernels.now.plan in
+    let n = c.size-size.result in
+    let fits : 0 * n + n ≤ plan.blocks * n = next_fits 0 plan.blocks n (blocks_some plan d.bits c.args.kernels.now.ready.planned) in
+    let spectra : length c.args.spectra.now ≡ plan.blocks * n = c.requires.spectra ∙ ap (λ k. plan.blocks * k) (sym c.size-size.ensures.value) in
+    sym (length-take-le n c.args.spectra.now (omega (arith, fits, spectra)))

@@ -1,4 +1,4 @@
-use Rattle.std.proofs.Common.{◌≡◌, ◌+◌, ◌-◌, ◌*◌, ◌^◌, ◌<◌, ◌≤◌, take, drop, length, ap, ◌∙◌, arith}
+use Rattle.std.proofs.Common.{◌≡◌, ◌+◌, ◌-◌, ◌*◌, ◌^◌, ◌<◌, ◌≤◌, take, drop, length, ap, sym, ◌∙◌, arith}
 use Rattle.lzk_field.specs.Sums.{entry}
 use Rattle.lzk_poly_ntt.specs.Kernels.{end_of, skip_of, weighted}
 use Rattle.lzk_poly_ntt.proofs.Levels.{entry-part}
@@ -39,3 +39,26 @@ returns g c =
     ∙ ap (λ u. o.times u (entry o (take (c.min-end.result - s) (drop s ws)) i)) (entry-part o values s (c.min-end.result - s) i (omega (arith, ended, l)))
     ∙ ap (o.times (entry o values (s + i))) (entry-part o ws s (c.min-end.result - s) i (omega (arith, ended, l))))
     (λ i l k. c.weigh.ensures.far i (omega (arith, long, skipped, short, l)) (omega (arith, size, k))))
+
+pub weigh-requires-clause-same : goal.weigh-requires-clause-same
+weigh-requires-clause-same g c = λ κs le.
+    let row = c.args.row.now in
+    let plan = row.kernels.now.plan in
+    let start = c.args.v * plan.block in
+    let n = c.min-end.result - start in
+    let within : start + n ≤ plan.count = omega (arith, row.kernels.now.ready.planned.blocks.begins c.args.v c.requires.block, c.min-end.ensures) in
+    length_part row.weights.now start n (omega (arith, within, row.weighted.0)) ∙ sym (length_part row.values.now start n (omega (arith, within, row.count)))
+
+pub weigh-requires-clause-room : goal.weigh-requires-clause-room
+weigh-requires-clause-room g c = λ κs le.
+    let row = c.args.row.now in
+    let plan = row.kernels.now.plan in
+    let planned = row.kernels.now.ready.planned in
+    let start = c.args.v * plan.block in
+    let n = c.min-end.result - start in
+    let within : start + n ≤ plan.count = omega (arith, planned.blocks.begins c.args.v c.requires.block, c.min-end.ensures) in
+    let short : n ≤ plan.block = omega (arith, c.min-end.ensures) in
+    omega (arith, length_part row.values.now start n (omega (arith, within, row.count)), short, planned.room, planned.moves, c.requires.out)
+
+pub forward-requires-after_bounds : goal.forward-requires-after_bounds
+forward-requires-after_bounds g c = λ κs le. c.weigh.auto.out ∙ c.requires.out

@@ -1,4 +1,5 @@
-use Rattle.std.proofs.Common.{◌≡◌, ℕ, ◌+◌, ◌-◌, ◌/◌, ◌^◌, ◌<◌, length, take, drop, ap, ◌∙◌, arith}
+use Rattle.std.proofs.Common.{◌≡◌, ℕ, ◌+◌, ◌-◌, ◌/◌, ◌^◌, ◌<◌, length, take, drop, ap, sym, subst, ◌∙◌, arith}
+use Rattle.lzk_poly_ntt.specs.Transform.{spectrum, AreTwiddles, IsRoot}
 use Rattle.std.proofs.lemmas.List.{get_or_default}
 use Rattle.lzk_field.specs.Sums.{entry, minus}
 use Rattle.lzk_poly_ntt.proofs.Levels.{halves, entry-part, entry-front, entry-back, forward_single, level_down}
@@ -69,3 +70,35 @@ returns-then-bits-eq1 g t c =
 pub returns-then-bits-eq0 : goal.returns-then-bits-eq0
 returns-then-bits-eq0 g t c =
     λ w root twiddles j h. forward_single g.F.Field.ops g.F.Field.laws.ring c.args.bits w c.args.values.now j (omega arith) (omega (arith, c.requires.levels.0))
+
+pub returns-then-bits-eq3 : goal.returns-then-bits-eq3
+returns-then-bits-eq3 g t c =
+    let o = g.F.Field.ops in
+    let three = c.if-bits-eq3.true in
+    let ts = c.args.twiddles.now in
+    λ w root twiddles j h.
+    c.forward_eight.ensures w (subst (λ (b : ℕ). IsRoot o b w) three root) (subst (λ (b : ℕ). AreTwiddles o b w ts) three twiddles) j h
+    ∙ ap (λ b. spectrum o b w (λ i. entry o c.args.values.now i) j) (sym three)
+
+pub forward_eight-requires-clause-levels : goal.forward_eight-requires-clause-levels
+forward_eight-requires-clause-levels g t c κs within = (c.requires.levels.0 ∙ ap (λ b. 2 ^ b) c.if-bits-eq3.true, c.requires.levels.1)
+
+pub forward_four-requires-after_bounds : goal.forward_four-requires-after_bounds
+forward_four-requires-after_bounds g t c = λ κs le. c.requires.levels.0 ∙ ap (λ b. 2 ^ b) c.if-bits-eq2.true
+
+pub butterfly-requires-after_bounds : goal.butterfly-requires-after_bounds
+butterfly-requires-after_bounds g t c = λ κs le. c.requires.levels.0 ∙ ap (λ b. 2 ^ b) c.if-bits-eq1.true
+
+pub bounds-twiddles-3 : goal.bounds-twiddles-3
+bounds-twiddles-3 g t c =
+    let four : length c.args.values.now ≡ 4 = c.requires.levels.0 ∙ ap (λ n. 2 ^ n) c.if-bits-eq2.true in
+    omega (arith, four, c.requires.levels.1)
+
+pub overflow_sub-bits : goal.overflow_sub-bits
+overflow_sub-bits g t c = omega (arith, c.if-bits-eq0.false)
+
+pub overflow_sub-bits-2 : goal.overflow_sub-bits-2
+overflow_sub-bits-2 g t c = omega (arith, c.if-bits-eq0.false)
+
+pub offset_bounds-twiddles-half : goal.offset_bounds-twiddles-half
+offset_bounds-twiddles-half g t c = omega (arith, c.requires.levels.1)
