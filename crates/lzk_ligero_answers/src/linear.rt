@@ -134,8 +134,8 @@ fn extend_factors<F: Field, X: RowExtend<F>>(
     let size = (params.dblock - params.block) as usize;
     for f in 0..FACTORS {
         let places = row_of(place_factors, wr, f, wr);
-        let (_, rest) = behind.split_at_mut(f * size);
-        let (row, _) = rest.split_at_mut(size);
+        let start = f * size;
+        let row = &mut behind[start..start + size];
         let given = Given {
             extending,
             coefficients: places,
@@ -246,7 +246,7 @@ pub fn linear_by_factors_into<'a, F: Field, X: RowExtend<F>>(
         extender,
     };
     let (behind, rest) = room.split_at_mut(FACTORS * (params.dblock - params.block) as usize);
-    let (values, _) = answer.split_at_mut(params.block as usize);
+    let values = &mut answer[..params.block as usize];
     let placed = Placed {
         extending: &extending,
         place_factors: combined.place_factors,

@@ -2,7 +2,7 @@
 use Rattle.std.specs.Prelude.{◌≡◌, ℕ, ◌+◌, ◌-◌, ◌*◌, ◌/◌, ◌%◌, ◌<◌, ◌≤◌, min, List, length, drop}
 use Rattle.std.specs.Fork.{slice_chunk}
 use Rattle.std.specs.Int.{div_ceil}
-use Rattle.std.proofs.Common.{suc, sym, ap, ◌∙◌, arith, length-take, length-drop}
+use Rattle.std.proofs.Common.{suc, sym, ap, ◌∙◌, arith, subst, length-take, length-drop}
 use Rattle.std.proofs.Math.Nat.{suc-mul, mul-le-mul_right, mul-div_cancel}
 use Rattle.std.proofs.lemmas.Nat.{div-add-mod'}
 use Rattle.std.proofs.lemmas.List.{get_or-take, get_or-drop}
@@ -11,9 +11,32 @@ use Rattle.lzk_field.specs.Ring.{Ops}
 use Rattle.lzk_field.specs.Sums.{entry}
 use Rattle.lzk_poly.specs.Extension.{extension}
 use Rattle.lzk_layout.specs.declared.params.Params.{Params}
+use Rattle.lzk_layout.specs.Sizes.{AreBounded}
 use Rattle.lzk_ligero_tableau.specs.Filled.{AreFilled, filled_row, place_in_chunks}
-use Rattle.lzk_ligero_tableau.proofs.GapLaws.{chunk_inside}
+use Rattle.lzk_ligero_tableau.proofs.GapLaws.{chunk_inside, some_each, each_few, few_chunks}
 use Rattle.lzk_ligero_tableau.proofs.ChunkLaws.{size, used, some_size, chunk_of, chunk_long, begins_used}
+
+-- so many rows a chunk and so many chunks, where there are no more chunks than workers
+pub record AreShared (p : Params) (workers room each of : ℕ) : Type 0 where
+  pub wide : 0 < p.ncol
+  pub some : 0 < each
+  pub rows : each * p.ncol ≤ p.nrow * p.ncol
+  pub one : room ≤ workers * room
+  pub rooms : of * room ≤ workers * room
+
+pub shared : (p : Params) (workers room each of : ℕ) → AreBounded p → 1 ≤ workers → each ≡ div_ceil p.nrow workers → of ≡ div_ceil p.nrow each → AreShared p workers room each of
+shared p workers room each of b working is_each is_of =
+    let some_rows : 0 < p.nrow = omega (arith, b.rows) in
+    let few : div_ceil p.nrow each ≤ workers = subst (λ n. div_ceil p.nrow n ≤ workers) (sym is_each) (few_chunks p.nrow workers some_rows working) in
+    let whole : each ≤ p.nrow = subst (λ n. n ≤ p.nrow) (sym is_each) (each_few p.nrow workers working) in
+    let one : 1 * room ≤ workers * room = mul-le-mul_right room working in
+    record {
+      wide = omega (arith, b.columns, b.mcol, b.block);
+      some = subst (λ n. 0 < n) (sym is_each) (some_each p.nrow workers some_rows working);
+      rows = mul-le-mul_right p.ncol whole;
+      one = omega (arith, one);
+      rooms = mul-le-mul_right room (subst (λ n. n ≤ workers) (sym is_of) few);
+    }
 
 module _ {A : Type 0} (o : Ops A) (e : Coding A) (word : ℕ → ℕ) (p : Params) (elements : List A) (each room : ℕ) (wide : 0 < p.ncol) (some : 0 < each) where
   abbrev whole : ℕ

@@ -1,2 +1,4 @@
 mod CoefficientLaws
 pub mod Outputs
+mod Together
+mod Written

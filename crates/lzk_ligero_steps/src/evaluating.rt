@@ -7,6 +7,7 @@ ghost use Rattle.lzk_circuit.specs.Checks.{checks_of};
 ghost use Rattle.lzk_circuit.specs.Wires.{all_values, inputs_of, IsFirstNonzero};
 ghost use Rattle.lzk_ligero_steps.specs.Parts.{ArePartsFor};
 
+use crate::both::both;
 use crate::parts::{Answering, Committed, make_extenders};
 use lzk_circuit::{Circuit, Values};
 use lzk_field::Field;
@@ -58,12 +59,18 @@ impl<F: Field, X: RowExtend<F>> Parts<F, X> {
         let extenders = make_extenders::<F, X>(alloc, &plan)?;
         let room = larger(extenders.short.room_len(), extenders.long.room_len());
         let coefficient_room = extenders.coefficients.room_len();
+        let rows = both(
+            Values::new(alloc, circuit),
+            Committed::new(alloc, &plan, room),
+        );
+        let lines = Answering::new(alloc, &plan, coefficient_room, id);
+        let ((values, committed), answering) = both(rows, lines)?;
         Ok(Parts {
             params,
-            values: Values::new(alloc, circuit)?,
+            values,
             extenders,
-            committed: Committed::new(alloc, &plan, room)?,
-            answering: Answering::new(alloc, &plan, coefficient_room, id)?,
+            committed,
+            answering,
         })
     }
 

@@ -15,6 +15,7 @@
 
 mod answering;
 mod asked;
+mod both;
 mod drawing;
 mod evaluating;
 mod opening;

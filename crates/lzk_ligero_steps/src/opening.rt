@@ -25,14 +25,9 @@ fn write_nonces<F: Field, W: Words>(given: &Given<F, W>, columns: &[u32], nonces
         ≡ map (spec.nonce F.ops F.coding g.plan.now.circuit.now g.private.now (low_words (W.at g.words.now)))
         columns.now }
 {
-    let Some((&j, others)) = columns.split_first() else {
-        return;
-    };
-    let Some((first, later)) = nonces.split_first_mut() else {
-        return;
-    };
-    *first = nonce(given, j);
-    write_nonces(given, others, later);
+    'columns: for k in 0..columns.len() {
+        nonces[k] = nonce(given, columns[k]);
+    }
 }
 
 /// Sets the nonces of the opened columns.

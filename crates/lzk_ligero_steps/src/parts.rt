@@ -4,6 +4,7 @@ ghost use Rattle.std.specs.Prelude.{◌≡◌, IfOk};
 ghost use Rattle.lzk_circbytes.specs.Files.{id_of};
 ghost use Rattle.lzk_ligero_steps.specs.Parts.{AreExtendersFor, IsCommittedFor, IsAnsweringFor};
 
+use crate::both::both;
 use crate::room::{Room, Sent, file_room};
 use lzk_field::Field;
 use lzk_layout::Plan;
@@ -19,10 +20,16 @@ pub(crate) fn make_extenders<F: Field, X: RowExtend<F>>(
 ) -> Result<Extenders<X>, AllocError>
     ensures { IfOk result (AreExtendersFor X.reach plan.now.params) }
 {
+    let rows = both(
+        X::make(alloc, plan.params.block, plan.params.ncol),
+        X::make(alloc, plan.params.dblock, plan.params.ncol),
+    );
+    let lines = X::make(alloc, plan.params.block, plan.params.dblock);
+    let ((short, long), coefficients) = both(rows, lines)?;
     Ok(Extenders {
-        short: X::make(alloc, plan.params.block, plan.params.ncol)?,
-        long: X::make(alloc, plan.params.dblock, plan.params.ncol)?,
-        coefficients: X::make(alloc, plan.params.block, plan.params.dblock)?,
+        short,
+        long,
+        coefficients,
     })
 }
 
@@ -40,10 +47,11 @@ impl<F: Field> Committed<F> {
     pub fn new(alloc: Global, plan: &Plan<'_, F>, room: usize) -> Result<Committed<F>, AllocError>
         ensures { IfOk result (IsCommittedFor plan.now.circuit.now plan.now.params room) }
     {
-        Ok(Committed {
-            tableau: Tableau::new(alloc, plan.circuit, room)?,
-            tree: Tree::new(alloc, plan.params.mcol)?,
-        })
+        let (tableau, tree) = both(
+            Tableau::new(alloc, plan.circuit, room),
+            Tree::new(alloc, plan.params.mcol),
+        )?;
+        Ok(Committed { tableau, tree })
     }
 }
 
@@ -69,11 +77,8 @@ impl<F: Field> Answering<F> {
         requires id { id ≡ id_of F.coding plan.now.circuit.now }
         ensures { IfOk result (IsAnsweringFor F.ops F.coding plan.now.circuit.now plan.now.params room) }
     {
-        // What is made last is dropped at no exit.
-        Ok(Answering {
-            bytes: file_room(alloc, plan)?,
-            sent: Sent::new(alloc, plan, id)?,
-            room: Room::new(alloc, plan, room)?,
-        })
+        let listed = both(file_room(alloc, plan), Sent::new(alloc, plan, id));
+        let ((bytes, sent), room) = both(listed, Room::new(alloc, plan, room))?;
+        Ok(Answering { room, sent, bytes })
     }
 }

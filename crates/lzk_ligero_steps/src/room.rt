@@ -6,6 +6,7 @@ ghost use Rattle.lzk_circbytes.specs.Files.{id_of};
 ghost use Rattle.lzk_layout.specs.Sizes.{AreParams, proof_length};
 ghost use Rattle.lzk_ligero_steps.specs.Rooms.{IsRoomFor, IsSentFor};
 
+use crate::both::both;
 use lzk_accept::{Challenges, Factored, Forms};
 use lzk_field::Field;
 use lzk_layout::{Elements, MOST_DIGESTS, OPENED, Plan, Proof, proof_len};
@@ -68,13 +69,22 @@ impl<F: Field> Room<F> {
         let Some(len) = sums_len(plan, extender_room) else {
             return Err(AllocError);
         };
-        // What is made last is dropped at no exit.
+        let elements = both(
+            Elements::zeros(alloc, len),
+            Elements::zeros(alloc, plan.params.dblock as usize),
+        );
+        let lines = both(
+            Forms::new(alloc, plan.circuit),
+            Rounds::new(alloc, plan.circuit),
+        );
+        let tables = both(Factored::new(alloc, plan.circuit), lines);
+        let ((sums, values), (factored, (forms, rounds))) = both(elements, tables)?;
         Ok(Room {
-            sums: Elements::zeros(alloc, len)?,
-            values: Elements::zeros(alloc, plan.params.dblock as usize)?,
-            factored: Factored::new(alloc, plan.circuit)?,
-            forms: Forms::new(alloc, plan.circuit)?,
-            rounds: Rounds::new(alloc, plan.circuit)?,
+            rounds,
+            forms,
+            factored,
+            sums,
+            values,
         })
     }
 }
@@ -86,10 +96,11 @@ impl<F: Field> Sent<F> {
         ensures { IfOk result (λ sent. IsSentFor F.coding plan.now.circuit.now plan.now.params sent) }
     {
         params_laws(plan);
-        // What is made last is dropped at no exit.
-        let script = Script::new(alloc, plan.circuit)?;
-        let challenges = Challenges::new(alloc, &plan.params)?;
-        let mut proof = Proof::new(alloc, &plan.params)?;
+        let drawn = both(
+            Script::new(alloc, plan.circuit),
+            Challenges::new(alloc, &plan.params),
+        );
+        let ((script, challenges), mut proof) = both(drawn, Proof::new(alloc, &plan.params))?;
         proof.id = id;
         Ok(Sent {
             proof,

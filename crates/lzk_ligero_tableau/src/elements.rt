@@ -68,8 +68,8 @@ fn set_committed<F: Field>(secrets: &Secrets<'_, F>, list: &mut [F])
     for l in 0..circuit.depth() {
         let count = 4 * places.bits as usize + 2;
         let begin = places.messages as usize;
-        let (_, later) = list.split_at_mut(places.pads as usize);
-        let (own, _) = later.split_at_mut(count + 1);
+        let at = places.pads as usize;
+        let own = &mut list[at..at + count + 1];
         set_layer(part(pads, begin, count), own);
         places = places.next(circuit, l);
     }

@@ -63,8 +63,8 @@ fn extend<F: Field, X: RowExtend<F>>(extender: &X, values: &[F], further: &mut [
     ensures { (k : ℕ) → k < length further.new
         → entry F.ops further.new k ≡ extension F.ops F.coding.element values.now (length values.now + k) }
 {
-    let (room, _) = room.split_at_mut(extender.room_len());
-    extender.extend_row(values, further, room);
+    let size = extender.room_len();
+    extender.extend_row(values, further, &mut room[..size]);
 }
 
 // Fills row `r`, and extends it.

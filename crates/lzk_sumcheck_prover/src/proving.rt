@@ -8,14 +8,14 @@ ghost use Rattle.lzk_transcript.specs.Columns.{after_draws};
 ghost use Rattle.lzk_circuit.specs.Bits.{bits};
 ghost use Rattle.lzk_circuit.specs.Valid.{ArePlaced, HaveWidths};
 ghost use Rattle.lzk_circuit.specs.Wires.{layer_coefficient};
-ghost use Rattle.lzk_layout.specs.Places.{depth, width_at, bits_under, output_bits};
+ghost use Rattle.lzk_layout.specs.Places.{depth, width_at, bits_under, output_bits, places_of};
 ghost use Rattle.lzk_layout.specs.Sizes.{sent_counts};
 ghost use Rattle.lzk_sumcheck.specs.declared.script.LayerScript as declared;
 ghost use Rattle.lzk_sumcheck.specs.Coefficients.{terms_at, AreBounds};
 ghost use Rattle.lzk_sumcheck.specs.Draws.{draws};
 ghost use Rattle.lzk_sumcheck.specs.Layers.{layer_of_terms};
 ghost use Rattle.lzk_sumcheck.specs.Messages.{IsLayerSent, AreMessages};
-ghost use Rattle.lzk_sumcheck_rounds.specs.Orders.{IsOrderOf};
+ghost use Rattle.lzk_sumcheck_rounds.specs.Orders.{IsOrderOf, AreOrders};
 ghost use Rattle.lzk_sumcheck_rounds.specs.Room.{IsRoomOf};
 ghost use Rattle.lzk_sumcheck.specs.Rounds.{bound_coefficient};
 ghost use Rattle.lzk_sumcheck.specs.Script as spec;
@@ -65,6 +65,40 @@ struct Given<'p, 'c, 'a, R, F: Field, G> {
     orders: &'p [Order],
 }
 
+// Layer `l`, with the pads of what it sends.
+fn layer_of<'p, 'c, R, F: Field, G>(
+    given: &Given<'p, 'c, '_, R, F, G>,
+    l: u32,
+    places: LayerPlaces,
+) -> PaddedLayer<'p, 'c, R, F, G>
+    requires layer { l < depth given.now.on.now.circuit.now }
+    requires places { places ≡ places_of given.now.on.now.circuit.now l }
+    requires orders { AreOrders given.now.on.now.circuit.now given.now.orders.now }
+    ensures terms { result.of.terms.now ≡ terms_at given.now.on.now.circuit.now l }
+    ensures placed { let c = given.now.on.now.circuit.now in
+        ArePlaced (width_at c l) (width_at c (l + 1)) None result.of.terms.now }
+    ensures order { IsOrderOf (terms_at given.now.on.now.circuit.now l) result.of.order.now }
+    ensures values { result.of.values.now ≡ slice_index_or given.now.on.now.values.now.wires (l + 1) [] }
+    ensures bits { result.bits ≡ places.bits }
+    ensures pads { let o = F.ops in
+        (k : ℕ) → k < 4 * places.bits + 2
+        → entry o result.pads.now k ≡ entry o given.now.on.now.pads.now (places.messages + k) }
+{
+    let (on, circuit) = (given.on, given.on.circuit);
+    circuit.valid_laws();
+    let bits = places.bits as usize;
+    PaddedLayer {
+        crew: given.crew,
+        of: LayerTerms {
+            terms: circuit.layer(l).terms.as_slice(),
+            order: given.orders[l as usize].as_slice(),
+            values: on.values.layer(l + 1),
+        },
+        bits,
+        pads: part(on.pads, places.messages as usize, 4 * bits + 2),
+    }
+}
+
 // Draws the outputs' point, and goes through all layers, the outputs' first.
 fn prove_list<R: Hands, F: Field, G>(
     given: &Given<R, F, G>,
@@ -99,29 +133,17 @@ fn prove_list<R: Hands, F: Field, G>(
     ensures bounds { let c = given.now.on.now.circuit.now in
         AreBounds F.ops c (spec.script F.ops F.coding messages.new c tape.old) bounds.new }
 {
-    let (on, circuit) = (given.on, given.on.circuit);
+    let circuit = given.on.circuit;
     let (depth, version) = (circuit.depth(), circuit.version());
     draw_all(tape, point);
     tables.set_points(point, point);
     let mut places = LayerPlaces::first(circuit);
     for l in 0..depth {
-        let (begin, bits) = (places.messages as usize, places.bits as usize);
-        let (_, later) = messages.split_at_mut(begin);
-        let (sent, _) = later.split_at_mut(4 * bits + 2);
-        let (wires, _) = weights.split_at_mut(circuit.width(l) as usize);
-        let of = LayerTerms {
-            terms: circuit.layer(l).terms.as_slice(),
-            order: given.orders[l as usize].as_slice(),
-            values: on.values.layer(l + 1),
-        };
-        let (crew, pads) = (given.crew, part(on.pads, begin, 4 * bits + 2));
-        let layer = PaddedLayer {
-            crew,
-            of,
-            bits,
-            pads,
-        };
+        let (begin, count) = (places.messages as usize, 4 * places.bits as usize + 2);
+        let layer = layer_of(given, l, places);
         let script = &mut layers[l as usize];
+        let sent = &mut messages[begin..begin + count];
+        let wires = &mut weights[..circuit.width(l) as usize];
         bounds[l as usize] = prove_layer(&layer, tape, version, script, tables, wires, sent);
         places = places.next(circuit, l);
     }

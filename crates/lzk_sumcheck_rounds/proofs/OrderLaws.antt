@@ -1,6 +1,6 @@
 -- Lists in another order.
 use Rattle.lzk_profile.specs.Profile.{most_total}
-use Rattle.std.specs.Prelude.{◌≡◌, ℕ, ◌+◌, ◌%◌, ◌<◌, Bool, true, false, not, cond, Option, Some, None, List, [], ◌∷◌, ◌++◌, ◌-◌, length, map, slice_get, slice_index_or, slice_set}
+use Rattle.std.specs.Prelude.{◌≡◌, ℕ, ◌+◌, ◌%◌, ◌<◌, ◌≤◌, Bool, true, false, not, cond, Option, Some, None, List, [], ◌∷◌, ◌++◌, ◌-◌, length, map, slice_get, slice_index_or, slice_set}
 use Rattle.std.specs.List.{range_with_len, AllByRecursion, swap}
 use Rattle.std.specs.List.Sorted.{IsPermutation}
 use Rattle.std.proofs.Common.{zero, suc, refl, sym, ap, ◌∙◌, get_or, arith, subst, inl, inr}
@@ -85,6 +85,37 @@ all_placed f (suc n) =
     let next : n + 1 ≡ suc n = omega arith in
     subst (λ xs. IsPermutation xs (places_where f (suc n) ++ places_where (λ i. not (f i)) (suc n))) (sym (range_more n) ∙ ap (range_with_len 0) next)
     (one_placed (f n) (places_where f n) (places_where (λ i. not (f i)) n) (range_with_len 0 n) n (all_placed f n))
+
+-- no fewer places pass below a greater number
+placed-more : (f : ℕ → Bool) (j n : ℕ) → j ≤ n → length (places_where f j) ≤ length (places_where f n)
+placed-more f j zero h = let none : j ≡ 0 = omega (arith, h) in omega (arith, ap (λ k. length (places_where f k)) none)
+placed-more f j (suc n) h =
+    elim (dec_lt j (suc n)) [
+      | yes l ↦ omega (arith, placed-more f j n (omega (arith, l)), one_longer (f n) (places_where f n) n)
+      | no l ↦ let all : j ≡ suc n = omega (arith, h, l) in omega (arith, ap (λ k. length (places_where f k)) all)
+    ]
+  where
+    one_longer : (b : Bool) (ps : List ℕ) (n : ℕ) → length ps ≤ length (cond b (ps ++ n ∷ []) ps)
+    one_longer true ps n = omega (arith, length-append ps (n ∷ []))
+    one_longer false ps n = omega arith
+
+-- all that pass below n and those that fail below a number are no more than n
+pub placed-few : (f : ℕ → Bool) (n j : ℕ) → j ≤ n → length (places_where f n) + length (places_where (λ i. not (f i)) j) ≤ n
+placed-few f n j h =
+    let passed = places_where f n in
+    let failed = places_where (λ i. not (f i)) n in
+    omega (arith, placed-more (λ i. not (f i)) j n h, length-append passed failed, length_permutation (range_with_len 0 n) (passed ++ failed) (all_placed f n), length-range_with_len 0 n)
+
+-- a place more passes below n
+pub passed-below : (f : ℕ → Bool) (n j : ℕ) → j < n → f j ≡ true → length (places_where f j) < n
+passed-below f n j h e =
+    omega (arith, placed-few f n 0 (omega arith), placed-more f (j + 1) n (omega (arith, h)), ap length (place_passed f j e), length-append (places_where f j) (j ∷ []))
+
+-- a place more fails below n
+pub failed-below : (f : ℕ → Bool) (n j : ℕ) → j < n → f j ≡ false → length (places_where f n) + length (places_where (λ i. not (f i)) j) < n
+failed-below f n j h e =
+    let failed = places_where (λ i. not (f i)) j in
+    omega (arith, placed-few f n (j + 1) (omega (arith, h)), ap length (place_passed (λ i. not (f i)) j (ap not e)), length-append failed (j ∷ []))
 
 -- so an order, however these are sorted
 pub order_sorted : {A : Type 0} (ts : List (Term A)) (ps qs : List ℕ)

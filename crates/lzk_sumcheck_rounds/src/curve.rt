@@ -1,6 +1,6 @@
 //! A round's value as a polynomial, from two tables whose products are summed.
 
-ghost use Rattle.std.specs.Prelude.{◌≡◌, ℕ, ◌*◌, ◌≤◌, length};
+ghost use Rattle.std.specs.Prelude.{◌≡◌, ℕ, ◌*◌, ◌≤◌, length, ⊤};
 ghost use Rattle.lzk_field.specs.Sums.{sum_below};
 ghost use Rattle.lzk_sumcheck_rounds.specs.Pairs.{bound_entry};
 ghost use Rattle.lzk_sumcheck_rounds.specs.Rows.{round_at};
@@ -8,14 +8,25 @@ ghost use Rattle.lzk_sumcheck_rounds.specs.Rows.{round_at};
 use crate::arithmetic::plus_product;
 use lzk_field::Field;
 use lzk_sumcheck::entry_at;
+use std::alloc::AllocError;
 
 /// The sum of two tables' products, that of the even places' products, and that of the products of the differences from
 /// an even place to the next.
-#[derive(Clone, Copy)]
+#[derive(Copy)]
 pub struct RoundSums<F> {
     pub all: F,
     pub even: F,
     pub lead: F,
+}
+
+impl<F: Copy> Clone for RoundSums<F> {
+    ghost is_clone = { λ sums copy. copy ≡ sums };
+
+    ghost is_infallible = { λ _. ⊤ };
+
+    fn clone(&self) -> Result<RoundSums<F>, AllocError> {
+        Ok(*self)
+    }
 }
 
 /// The sums of a round, from which its value at each point follows.

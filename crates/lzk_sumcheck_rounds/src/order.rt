@@ -71,14 +71,14 @@ fn sorted_places<F: Field>(alloc: Global, terms: &[Term<F>]) -> Result<Vec<u64>,
     for i in 0..terms.len() {
         let term = terms[i];
         if term.a == 0 {
-            list.push(word_of(0, i as u32))?;
+            list.push_reserved(word_of(0, i as u32));
         }
     }
     let front = list.len();
     for j in 0..terms.len() {
         let term = terms[j];
         if term.a != 0 {
-            list.push(word_of(key_of(term), j as u32))?;
+            list.push_reserved(word_of(key_of(term), j as u32));
         }
     }
     sort_from(&mut list, front);
@@ -126,7 +126,7 @@ pub(crate) fn orders_of<F: Field>(
     let depth = circuit.depth();
     let mut list = Vec::with_capacity(alloc, depth as usize)?;
     for l in 0..depth {
-        list.push(order_at(alloc, circuit, l)?)?;
+        list.push_reserved(order_at(alloc, circuit, l)?);
     }
     Ok(list)
 }

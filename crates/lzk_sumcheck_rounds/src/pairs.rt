@@ -1,18 +1,29 @@
 //! Coefficients of pairs of wires that are bound one variable after the other, with equal pairs merged.
 
-ghost use Rattle.std.specs.Prelude.{◌≡◌, ℕ, ◌+◌, ◌≤◌, ◌<◌, [], ◌∷◌, length, map, take, drop};
+ghost use Rattle.std.specs.Prelude.{◌≡◌, ℕ, ◌+◌, ◌≤◌, ◌<◌, [], ◌∷◌, length, map, take, drop, ⊤};
 ghost use Rattle.lzk_sumcheck_rounds.specs.Pairs.{bind_pair, ArePairs, spread};
 
 use crate::arithmetic::{product_of, sum_of};
 use lzk_field::Field;
 use lzk_sumcheck::agreement;
+use std::alloc::AllocError;
 
 /// A coefficient of a pair of numbers of wires. The next variable is bit 0 of `a`.
-#[derive(Clone, Copy)]
+#[derive(Copy)]
 pub struct Pair<F> {
     pub a: u32,
     pub b: u32,
     pub coef: F,
+}
+
+impl<F: Copy> Clone for Pair<F> {
+    ghost is_clone = { λ pair copy. copy ≡ pair };
+
+    ghost is_infallible = { λ _. ⊤ };
+
+    fn clone(&self) -> Result<Pair<F>, AllocError> {
+        Ok(*self)
+    }
 }
 
 // The pair with the first bit of a bound, and the two numbers in each other's place.

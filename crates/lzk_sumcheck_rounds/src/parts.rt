@@ -20,7 +20,7 @@ pub fn sum_whole<F: Field>(round: &Summed<F>, rows: &mut [F]) -> RoundSums<F>
     ensures { let r = round.now in
         AreSums F.ops (row_at F.ops r.of_a r.pairs.now r.scale r.linear.now r.second.now) r.first.now result }
 {
-    let (rows, _) = rows.split_at_mut(round.first.len());
+    let rows = &mut rows[..round.first.len()];
     set_rows(round, rows);
     round_sums(rows, round.first)
 }

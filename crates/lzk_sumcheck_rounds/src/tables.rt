@@ -2,6 +2,7 @@
 
 ghost use Rattle.lzk_profile.specs.Profile.{most_bits};
 ghost use Rattle.std.specs.Prelude.{◌≡◌, ℕ, ◌+◌, ◌/◌, ◌%◌, ◌^◌, ◌<◌, ◌≤◌, true, None, [], ◌∷◌, List, IfOk, length, map};
+ghost use Rattle.std.specs.Prelude.{⊤};
 ghost use Rattle.lzk_field.specs.Sums.{entry};
 ghost use Rattle.lzk_mle.specs.Multilinear.{eq, tilde};
 ghost use Rattle.lzk_circuit.specs.Valid.{ArePlaced};
@@ -81,11 +82,21 @@ impl<F: Field> Model for Tables<F> {
 }
 
 /// What is left when all variables are bound.
-#[derive(Clone, Copy)]
+#[derive(Copy)]
 pub struct Last<F> {
     pub first: F,
     pub second: F,
     pub coefficient: F,
+}
+
+impl<F: Copy> Clone for Last<F> {
+    ghost is_clone = { λ last copy. copy ≡ last };
+
+    ghost is_infallible = { λ _. ⊤ };
+
+    fn clone(&self) -> Result<Last<F>, AllocError> {
+        Ok(*self)
+    }
 }
 
 fn pairs_of_zeros<F: Field>(alloc: Global, count: usize) -> Result<Vec<Pair<F>>, AllocError>

@@ -1,6 +1,6 @@
 //! A layer's terms, counted into the tables that its rounds begin with.
 
-ghost use Rattle.std.specs.Prelude.{◌≡◌, ℕ, ◌+◌, ◌<◌, ◌≤◌, Some, None, [], ◌∷◌, length, map, take, slice_get};
+ghost use Rattle.std.specs.Prelude.{◌≡◌, ℕ, ◌+◌, ◌<◌, ◌≤◌, Some, None, [], ◌∷◌, length, map, take, slice_get, ⊤};
 ghost use Rattle.lzk_field.specs.Sums.{entry};
 ghost use Rattle.lzk_circuit.specs.declared.layer.Term as declared;
 ghost use Rattle.lzk_circuit.specs.Valid.{ArePlaced};
@@ -15,13 +15,24 @@ use crate::rows::set_zeros;
 use lzk_circuit::{Term, weight_of};
 use lzk_field::Field;
 use lzk_sumcheck::entry_at;
+use std::alloc::AllocError;
 
 /// What stands of a layer: its terms, an order of them, and the values of the wires below.
-#[derive(Clone, Copy)]
+#[derive(Copy)]
 pub struct LayerTerms<'a, F> {
     pub terms: &'a [Term<F>],
     pub order: &'a [u32],
     pub values: &'a [F],
+}
+
+impl<'a, F: Copy> Clone for LayerTerms<'a, F> {
+    ghost is_clone = { λ of copy. copy ≡ of };
+
+    ghost is_infallible = { λ _. ⊤ };
+
+    fn clone(&self) -> Result<LayerTerms<'a, F>, AllocError> {
+        Ok(*self)
+    }
 }
 
 // The pair of a term's wires below, with the weight of its wire; an assertion term counts beta.
@@ -113,9 +124,15 @@ pub(crate) fn set_fronts<F: Field>(
         spread o (map (first_pair o weights.now) (weighed o beta of.now.terms.now)) i j }
     ensures within { (n m : ℕ) → size ≤ n → size ≤ m → ArePairs n m (take result pairs.new) }
 {
-    let (pairs, _) = pairs.split_at_mut(of.terms.len());
-    let (linear, _) = linear.split_at_mut(size);
-    set_terms(of.terms, of.order, beta, weights, pairs, linear)
+    let pairs = &mut pairs[..of.terms.len()];
+    set_terms(
+        of.terms,
+        of.order,
+        beta,
+        weights,
+        pairs,
+        &mut linear[..size],
+    )
 }
 
 /// How many entries a table of so many values has: one at least.
@@ -147,6 +164,5 @@ pub(crate) fn pad_front<F: Field>(values: &[F], size: usize, table: &mut [F])
     requires room { size ≤ length table.old }
     ensures { let o = F.ops in (i : ℕ) → entry o (take size table.new) i ≡ entry o values.now i }
 {
-    let (front, _) = table.split_at_mut(size);
-    pad_values(values, front);
+    pad_values(values, &mut table[..size]);
 }

@@ -19,8 +19,7 @@ pub(crate) fn set_table<F: Field>(r: &[F], table: &mut [F])
     ensures { let o = F.ops in (i : ℕ) → i < 2 ^ length r.now → entry o table.new i ≡ eq o i r.now }
 {
     let size = power_of(r.len() as u32);
-    let (entries, _) = table.split_at_mut(size);
-    eq_table(r, entries);
+    eq_table(r, &mut table[..size]);
 }
 
 /// Sets the weight of each wire of a layer, by the tables of its two points.

@@ -1,6 +1,6 @@
 use Rattle.lzk_profile.specs.Profile.{most_digests}
-use Rattle.std.specs.Prelude.{Vec, map, take}
-use Rattle.std.proofs.Common.{◌≡◌, rules, length, refl, sym, ap, ◌∙◌, arith, subst}
+use Rattle.std.specs.Prelude.{◌<◌, ◌*◌, Vec, map, slice_index, take}
+use Rattle.std.proofs.Common.{◌≡◌, length, refl, sym, ap, ◌∙◌, arith, subst}
 use Rattle.lzk_circuit.specs.Wires.{all_values, inputs_of}
 use Rattle.lzk_layout.specs.Sizes.{params_of, proof_length}
 use Rattle.lzk_layout.specs.Proofs.{ProofBytes}
@@ -18,6 +18,84 @@ use Rattle.lzk_ligero_steps.specs.Rooms.{IsRoomFor, IsSentFor, coefficient_reach
 use Rattle.lzk_ligero.proofs.Assembled.{assembled, transcript_of}
 use Rattle.lzk_ligero.proofs.TableLaws.{count_rows, table_of}
 use Rattle.lzk_ligero.proofs.proving.write.Goals as goal
+
+pub commit-sent-requires-clause-made : goal.commit-sent-requires-clause-made
+commit-sent-requires-clause-made g c κs within = c.requires.parts.tableau
+
+pub commit-sent-requires-clause-reaching : goal.commit-sent-requires-clause-reaching
+commit-sent-requires-clause-reaching g c κs within =
+    let old = c.requires.parts in
+    let parts = c.args.parts.now in
+    let x = parts.extenders in
+    let reach = g.X.RowExtend.reach in
+    let rooms = g.X.RowExtend.rooms in
+    subst (λ p. AreReaching p (reach x.short) (reach x.long) (rooms x.short) (rooms x.long) parts.committed.tableau.room) old.params old.rows
+
+pub commit-sent-requires-clause-leaves : goal.commit-sent-requires-clause-leaves
+commit-sent-requires-clause-leaves g c κs within = let old = c.requires.parts in old.leaves ∙ ap (λ p. p.mcol) old.params
+
+pub respond-requires-clause-values : goal.respond-requires-clause-values
+respond-requires-clause-values g c κs within = c.requires.parts.values
+
+pub respond-requires-clause-table : goal.respond-requires-clause-table
+respond-requires-clause-table g c κs within = c.commit-sent.ensures.made
+
+pub open_nonces-requires-clause-below : goal.open_nonces-requires-clause-below
+open_nonces-requires-clause-below g c κs within = c.respond.ensures.opened.below
+
+pub open_nonces-requires-clause-room : goal.open_nonces-requires-clause-room
+open_nonces-requires-clause-room g c κs within = let sent = c.respond.ensures.sent in sent.lengths.nonces ∙ sym sent.columns
+
+pub open_columns-requires-clause-below : goal.open_columns-requires-clause-below
+open_columns-requires-clause-below g c κs within k h =
+    let params = c.args.given.now.plan.now.are ∙ sym c.commit-sent.ensures.made.params in
+    subst (λ p. slice_index c.respond.new.answering.sent.columns k < p.mcol) params (c.respond.ensures.opened.below k h)
+
+pub open_columns-requires-clause-room : goal.open_columns-requires-clause-room
+open_columns-requires-clause-room g c κs within =
+    let sent = c.respond.ensures.sent in
+    let plan = c.args.given.now.plan.now in
+    let params = plan.are ∙ sym c.commit-sent.ensures.made.params in
+    sent.lengths.columns ∙ ap (λ n. n * plan.params.nrow) (sym sent.columns) ∙ ap (λ p. length c.respond.new.answering.sent.columns * p.nrow) params
+
+pub invariant_of-opened : goal.invariant_of-opened
+invariant_of-opened g c =
+    let plan = c.args.given.now.plan.now in
+    let b = plan.bounded in
+    record {
+      built = c.commit-sent.ensures.built;
+      leaves = c.commit-sent.ensures.count ∙ sym (ap (λ p. p.mcol) plan.are);
+      few = omega (arith, b.mcol, b.block, b.wr);
+      opened = c.respond.ensures.opened;
+      count = c.respond.ensures.sent.columns;
+    }
+
+pub open_path-requires : goal.open_path-requires
+open_path-requires g c = c.respond.ensures.sent.path
+
+pub write_file-requires-clause-lengths : goal.write_file-requires-clause-lengths
+write_file-requires-clause-lengths g c κs within =
+    let sent = c.respond.ensures.sent in
+    let plan = c.args.given.now.plan.now in
+    let params = plan.are ∙ sym c.commit-sent.ensures.made.params in
+    record {
+      messages = sent.lengths.messages;
+      ldt = sent.lengths.ldt;
+      dot = sent.lengths.dot;
+      quad_head = sent.lengths.quad_head;
+      quad_tail = sent.lengths.quad_tail;
+      nonces = c.open_nonces.ensures.room ∙ sent.columns;
+      columns = c.open_columns.ensures.room ∙ ap (λ p. length c.respond.new.answering.sent.columns * p.nrow) (sym params) ∙ ap (λ n. n * plan.params.nrow) sent.columns;
+    }
+
+pub write_file-requires-clause-few : goal.write_file-requires-clause-few
+write_file-requires-clause-few g c κs within = c.open_path.ensures.few
+
+pub returns-clause-inside : goal.returns-clause-inside
+returns-clause-inside g c =
+    let bytes = c.respond.new.answering.bytes in
+    let whole = refill_whole bytes.len bytes.items c.write_file.new.bytes (omega (arith, c.write_file.ensures.room, c.deref_mut.ensures.len)) in
+    omega (arith, c.write_file.ensures.inside, ap length whole)
 
 pub respond-requires-clause-reach : goal.respond-requires-clause-reach
 respond-requires-clause-reach g c κs within =
@@ -97,10 +175,11 @@ returns-clause-parts g c =
           dot = sent.lengths.dot;
           quad_head = sent.lengths.quad_head;
           quad_tail = sent.lengths.quad_tail;
-          nonces = search rules;
-          columns = search rules;
+          nonces = c.open_nonces.ensures.room ∙ sent.columns;
+          columns = c.open_columns.ensures.room ∙ ap (λ p. length c.respond.new.answering.sent.columns * p.nrow) c.commit-sent.ensures.made.params
+              ∙ ap (λ p. length c.respond.new.answering.sent.columns * p.nrow) (sym old.params) ∙ ap (λ n. n * c.args.parts.now.params.nrow) sent.columns;
         };
-        path = search rules;
+        path = omega (arith, sent.path, c.open_path.ensures.room);
         script = sent.script;
         challenges = sent.challenges;
         columns = sent.columns;
@@ -144,7 +223,8 @@ returns-clause-file g c =
           (record { low_degree = a.low_degree; linear = a.linear; quad_head = a.quad_head; quad_tail = a.quad_tail })
           c.open_nonces.ensures.nonces
           (c.open_columns.ensures.columns w private word c.commit-sent.ensures.made.params c.commit-sent.ensures.rows)
-          (c.open_path.ensures.digests ∙ (λ i. map (tree_node (is i).mcol (c.commit-sent.ensures.leaves i)) (path_nodes (is i).mcol sent.columns)));
+          (subst (λ leaves. c.open_path.new.path.digests ≡ map (tree_node (params_of w).mcol leaves) (path_nodes (params_of w).mcol sent.columns)) c.commit-sent.ensures.leaves
+          (subst (λ p. c.open_path.new.path.digests ≡ map (tree_node p.mcol c.commit-sent.new.tree.leaves) (path_nodes p.mcol sent.columns)) is c.open_path.ensures.digests));
       written = subst (λ xs. ProofBytes e.bytes e.number (params_of w) proof (take c.write_file.result xs)) (sym whole)
           (subst (λ p. ProofBytes e.bytes e.number p proof (take c.write_file.result c.write_file.new.bytes)) is c.write_file.ensures.file);
     }

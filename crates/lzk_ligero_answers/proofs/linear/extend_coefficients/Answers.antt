@@ -16,5 +16,5 @@ returns-clause-values g c list are k h =
     let same : values ≡ list = c.extend_behind.ensures.given list are in
     entries_joined o (λ k x. x ≡ extension o m.coding.element list k) values c.extend_behind.new.behind
     (λ i q. ap (λ xs. entry o xs i) same ∙ sym (extension-given o m.laws.ring m.laws.field m.coding.element list (points_apart m.laws (length list) (omega (arith, are.count, b.block, b.wr))) i (omega (arith, ap length same))))
-    (λ i q. c.extend_behind.ensures.further list are i (omega arith) ∙ ap (λ (n : ℕ). extension o m.coding.element list (n + i)) (omega (arith, ap length same, are.count)))
+    (λ i q. c.extend_behind.ensures.further list are i (omega (arith, q, c.extend_behind.ensures.behind)) ∙ ap (λ (n : ℕ). extension o m.coding.element list (n + i)) (omega (arith, ap length same, are.count)))
     k (omega arith)

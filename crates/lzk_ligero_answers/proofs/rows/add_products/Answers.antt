@@ -1,4 +1,4 @@
-use Rattle.std.proofs.Common.{◌≡◌, ℕ, ◌+◌, ◌*◌, ◌<◌, length, arith, ap, ◌∙◌}
+use Rattle.std.proofs.Common.{◌≡◌, ℕ, ◌+◌, ◌*◌, ◌<◌, ◌≤◌, length, refl, arith, ap, ◌∙◌, mul-le-mul_right}
 use Rattle.std.proofs.lemmas.List.{get_or_default, get_or-set_other, length-set}
 use Rattle.lzk_field.specs.Sums.{entry, sum_below}
 use Rattle.lzk_field.proofs.SumLaws.{sum-ext}
@@ -20,18 +20,43 @@ loop-k-preserved g c =
     let sum : ℕ → ℕ → g.row.F.Denot = λ f k. sum_below o rows (λ i. o.times (entry o factors (f * rows + i)) (here i k)) in
     let sum_of : ℕ → ℕ → g.row.F.Denot = λ n f. sum_below o n (λ i. o.times (entry o factors (f * n + i)) (entry o column i)) in
     let f : ℕ → g.row.F.Denot = λ k. o.plus (entry o old k) (sum_below o 4 (λ f. o.times (given f k) (sum f k))) in
-    let many : length column ≡ rows = omega arith in
+    let many : length column ≡ rows = c.gather.ensures.length ∙ l.invariant.1 in
     let summed : c.factored_at.result ≡ sum_below o 4 (λ f. o.times (given f l.k) (sum f l.k)) =
     c.factored_at.ensures
     ∙ ap (λ (n : ℕ). sum_below o 4 (λ f. o.times (given f l.k) (sum_of n f))) many
     ∙ sum-ext o r 4 (λ f. o.times (given f l.k) (sum_of rows f)) (λ f. o.times (given f l.k) (sum f l.k))
     (λ f z. ap (o.times (given f l.k))
-    (sum-ext o r rows (λ i. o.times (entry o factors (f * rows + i)) (entry o column i)) (λ i. o.times (entry o factors (f * rows + i)) (here i l.k)) (λ i q. ap (o.times (entry o factors (f * rows + i))) (c.gather.ensures.entries i (omega arith))))) in
-    let within : l.k < length l.out = omega arith in
+    (sum-ext o r rows (λ i. o.times (entry o factors (f * rows + i)) (entry o column i)) (λ i. o.times (entry o factors (f * rows + i)) (here i l.k)) (λ i q. ap (o.times (entry o factors (f * rows + i))) (c.gather.ensures.entries i (omega (arith, q, l.invariant.1)))))) in
+    let within : l.k < length l.out = omega (arith, c.loop-k-test.true, l.invariant.0) in
     let own : c.index-out-k.result ≡ entry o old l.k = c.index-out-k.is ∙ get_or_default l.out l.k c.index-out-k.result o.zero within ∙ l.invariant.3 l.k (omega arith) in
     let is : c.add.result ≡ f l.k = c.add.ensures ∙ ap (λ w. o.plus w c.factored_at.result) own ∙ ap (o.plus (entry o old l.k)) summed in (
       length-set l.out l.k c.add.result ∙ l.invariant.0,
-      omega arith,
+      many,
       filled_more o.zero f l.k l.out c.add.result within is l.invariant.2,
-      λ k h. get_or-set_other l.out l.k k c.add.result o.zero (omega arith) ∙ l.invariant.3 k (omega arith),
+      λ k h. get_or-set_other l.out l.k k c.add.result o.zero (λ e. omega (arith, e, h)) ∙ l.invariant.3 k (omega (arith, h)),
     )
+
+pub loop-k-init : goal.loop-k-init
+loop-k-init g c = (refl, c.split_at_mut-column.ensures.front_len, λ k h. absurd (omega (arith, h)), λ k h. refl)
+
+pub returns-clause-length : goal.returns-clause-length
+returns-clause-length g c = c.loop-k.invariant.0
+
+pub returns-clause-sums : goal.returns-clause-sums
+returns-clause-sums g c = λ k h. c.loop-k.invariant.2 k (omega (arith, h, c.loop-k-test.false, c.loop-k.invariant.0))
+
+pub gather-requires-clause-inside : goal.gather-requires-clause-inside
+gather-requires-clause-inside g c κs within =
+    let f = c.args.factors.now in
+    let t = f.table.now in
+    let low : (3 + length c.loop-k.column) * t.width ≤ t.params.now.nrow * t.width = mul-le-mul_right t.width (omega (arith, c.loop-k.invariant.1, f.few, t.bounded.rows)) in
+    omega (arith, low, t.inside)
+
+pub gather-requires-clause-column : goal.gather-requires-clause-column
+gather-requires-clause-column g c κs within = omega (arith, c.requires.short, c.loop-k-test.true)
+
+pub invariant_of-gathered : goal.invariant_of-gathered
+invariant_of-gathered g c = record { by_row = omega (arith, c.args.factors.now.by_row, c.gather.ensures.length, c.loop-k.invariant.1); by_place = c.requires.values }
+
+pub factored_at-requires-clause-place : goal.factored_at-requires-clause-place
+factored_at-requires-clause-place g c κs within = c.loop-k-test.true

@@ -1,7 +1,9 @@
 use Rattle.std.specs.Prelude.{length}
 use Rattle.std.proofs.Common.{sym, ap, ◌∙◌, arith, subst}
+use Rattle.lzk_accept.specs.Challenges.{HasShape}
 use Rattle.lzk_accept.specs.Checks.{coefficient_of, combined_row_of}
 use Rattle.lzk_ligero_answers.specs.Coefficients.{AreFactored, AreListed}
+use Rattle.lzk_sumcheck.specs.Coefficients.{AreBounds}
 use Rattle.lzk_sumcheck.proofs.Filled.{refill_whole}
 use Rattle.lzk_ligero_steps.proofs.CoefficientLaws.{factored_are, listed_are, room_for}
 use Rattle.lzk_ligero_steps.proofs.answering.answer_linear.Goals as goal
@@ -17,6 +19,69 @@ invariant_of-combined g c =
       by_place = ap length c.as_slice-2.ensures ∙ sizes.1;
       count = ap length c.as_slice-3.ensures ∙ sizes.2;
     }
+
+pub combine_with_bounds-requires-clause-public : goal.combine_with_bounds-requires-clause-public
+combine_with_bounds-requires-clause-public g c κs within = c.args.asked.now.publics
+
+pub combine_with_bounds-requires-clause-script : goal.combine_with_bounds-requires-clause-script
+combine_with_bounds-requires-clause-script g c κs within = c.args.asked.now.script_fits
+
+pub combine_with_bounds-requires-clause-messages : goal.combine_with_bounds-requires-clause-messages
+combine_with_bounds-requires-clause-messages g c κs within = c.requires.messages
+
+pub combine_with_bounds-requires-clause-challenges : goal.combine_with_bounds-requires-clause-challenges
+combine_with_bounds-requires-clause-challenges g c κs within =
+    let asked = c.args.asked.now in
+    subst (λ p. HasShape p asked.challenges.now) asked.plan.now.are asked.challenges_fit
+
+pub combine_with_bounds-requires-clause-bounds : goal.combine_with_bounds-requires-clause-bounds
+combine_with_bounds-requires-clause-bounds g c κs within =
+    let asked = c.args.asked.now in
+    subst (AreBounds g.F.Field.ops asked.plan.now.circuit.now asked.script.now) (sym c.bounds.ensures.bounds) c.requires.bounds
+
+pub combine_with_bounds-requires-clause-forms : goal.combine_with_bounds-requires-clause-forms
+combine_with_bounds-requires-clause-forms g c κs within = c.requires.room.forms
+
+pub combine_with_bounds-requires-clause-room : goal.combine_with_bounds-requires-clause-room
+combine_with_bounds-requires-clause-room g c κs within = c.requires.room.factored
+
+pub invariant_of-rows : goal.invariant_of-rows
+invariant_of-rows g c =
+    let asked = c.args.asked.now in
+    let b = asked.plan.now.bounded in
+    record {
+      bounded = b;
+      inside = omega (arith, asked.table_fits);
+      wide = omega (arith, b.columns);
+    }
+
+pub linear_by_factors_into-requires-clause-reach : goal.linear_by_factors_into-requires-clause-reach
+linear_by_factors_into-requires-clause-reach g c κs within = c.requires.reach
+
+pub linear_by_factors_into-requires-clause-room : goal.linear_by_factors_into-requires-clause-room
+linear_by_factors_into-requires-clause-room g c κs within = omega (arith, c.requires.room.sums, ap length c.as_mut_slice.ensures.value)
+
+pub linear_by_factors_into-requires-clause-answer : goal.linear_by_factors_into-requires-clause-answer
+linear_by_factors_into-requires-clause-answer g c κs within = ap length c.as_mut_slice-2.ensures.value ∙ c.requires.answer
+
+pub returns-clause-room : goal.returns-clause-room
+returns-clause-room g c =
+    let room = c.requires.room in
+    let old = c.args.room.now.sums in
+    let size = c.linear_by_factors_into.ensures.room ∙ ap length c.as_mut_slice.ensures.value in
+    record {
+      rounds = room.rounds;
+      forms = c.combine_with_bounds.ensures.forms;
+      factored = c.combine_with_bounds.ensures.room;
+      sums = omega (arith, room.sums, ap length (refill_whole (length old) old c.linear_by_factors_into.new.room size), size);
+      values = room.values;
+    }
+
+pub returns-clause-answer : goal.returns-clause-answer
+returns-clause-answer g c =
+    let old = c.args.answer.now in
+    let size = c.linear_by_factors_into.ensures.answer ∙ ap length c.as_mut_slice-2.ensures.value in
+    ap length (refill_whole (length old) old c.linear_by_factors_into.new.answer size) ∙ size ∙ c.requires.answer
 
 pub returns-clause-values : goal.returns-clause-values
 returns-clause-values g c = λ rows count table.

@@ -1,7 +1,7 @@
 use Rattle.std.proofs.Common.{◌≡◌, ◌+◌, ◌*◌, ◌^◌, ◌<◌, length, refl, ap, sym, ◌∙◌, ◌++◌, arith, subst}
 use Rattle.std.specs.Prelude.{List, None, map, slice_set}
 use Rattle.std.specs.List.{range_with_len, refill, length_refill}
-use Rattle.std.proofs.lemmas.List.{get_or_default}
+use Rattle.std.proofs.lemmas.List.{get_or_default, length-set, length-take}
 use Rattle.std.proofs.lemmas.Nat.{pow_pos}
 use Rattle.lzk_field.specs.Sums.{minus, entry}
 use Rattle.lzk_mle.specs.Multilinear.{eq, tilde}
@@ -10,7 +10,7 @@ use Rattle.lzk_circuit.specs.Wires.{layer_coefficient}
 use Rattle.lzk_sumcheck.specs.declared.script.LayerScript.{LayerScript}
 use Rattle.lzk_sumcheck.specs.Layers.{layer_of_terms}
 use Rattle.lzk_sumcheck.specs.Rounds.{of_a, of_b, bound_coefficient}
-use Rattle.lzk_sumcheck.specs.Script.{drawn_beta, after_beta, after_rounds, after_first, round_challenge, with_pair}
+use Rattle.lzk_sumcheck.specs.Script.{drawn_beta, after_beta, after_rounds, round_challenge, with_pair}
 use Rattle.lzk_sumcheck.specs.Sending.{after_sent, drawn_sent, AreRoundsSent}
 use Rattle.lzk_sumcheck_rounds.specs.Tables.{TableRoom}
 use Rattle.lzk_sumcheck.specs.Weights.{weighted}
@@ -147,3 +147,53 @@ returns g c =
       first = λ i h. c.set_points.ensures.first i (subst (λ n. i < 2 ^ n) (sym long) h) ∙ ap (eq o i) c.as_slice.ensures;
       second = λ i h. c.set_points.ensures.second i (subst (λ n. i < 2 ^ n) (sym long) h) ∙ ap (eq o i) c.as_slice-2.ensures;
     }
+
+pub begin-requires-clause-order : goal.begin-requires-clause-order
+begin-requires-clause-order g c κs within = c.requires.order
+
+pub begin-requires-clause-terms : goal.begin-requires-clause-terms
+begin-requires-clause-terms g c κs within =
+    let of = c.args.layer.now.of in
+    subst (λ n. ArePlaced n (length of.values.now) None of.terms.now) (sym c.weigh.auto.weights) c.requires.terms
+
+pub begin-requires-clause-pairs : goal.begin-requires-clause-pairs
+begin-requires-clause-pairs g c κs within = c.requires.pairs
+
+pub begin-requires-clause-values : goal.begin-requires-clause-values
+begin-requires-clause-values g c κs within = omega (arith, c.args.layer.now.fits, c.requires.places)
+
+pub send_rounds-last-requires-clause-turn : goal.send_rounds-last-requires-clause-turn
+send_rounds-last-requires-clause-turn g c κs within =
+    omega (arith, ap length c.as_mut_slice-ra.ensures.value, ap length c.as_mut_slice-rb.ensures.value, c.requires.bits.ra, c.requires.bits.rb)
+
+pub send_rounds-last-requires-clause-next : goal.send_rounds-last-requires-clause-next
+send_rounds-last-requires-clause-next g c κs within =
+    omega (arith, ap length c.as_mut_slice-ra.ensures.value, ap length c.as_mut_slice-rb.ensures.value, c.requires.bits.ra, c.requires.bits.rb)
+
+pub send_rounds-last-requires-clause-pads : goal.send_rounds-last-requires-clause-pads
+send_rounds-last-requires-clause-pads g c κs within =
+    let k = c.args.layer.now.bits in
+    omega (
+      arith,
+      length-take (4 * k) c.args.layer.now.pads.now,
+      c.args.layer.now.count,
+      ap length c.as_mut_slice-ra.ensures.value,
+      ap length c.as_mut_slice-rb.ensures.value,
+      c.requires.bits.ra,
+      c.requires.bits.rb,
+    )
+
+pub send_rounds-last-requires-clause-sent : goal.send_rounds-last-requires-clause-sent
+send_rounds-last-requires-clause-sent g c κs within =
+    omega (arith, c.split_at_mut-rounds.ensures.front_len, ap length c.as_mut_slice-ra.ensures.value, ap length c.as_mut_slice-rb.ensures.value, c.requires.bits.ra, c.requires.bits.rb)
+
+pub bounds-pads-count : goal.bounds-pads-count
+bounds-pads-count g c = omega (arith, c.args.layer.now.count)
+
+pub bounds-pads-count-2 : goal.bounds-pads-count-2
+bounds-pads-count-2 g c = omega (arith, c.args.layer.now.count)
+
+pub write_pair-requires-after_bounds : goal.write_pair-requires-after_bounds
+write_pair-requires-after_bounds g c =
+    let behind = c.split_at_mut-rounds.result.1.now in
+    omega (arith, length-set (slice_set behind 0 c.sub.result) 1 c.sub-2.result, length-set behind 0 c.sub.result, c.split_at_mut-rounds.ensures.back_len, c.requires.room)

@@ -87,3 +87,6 @@ returns g c =
       bounds = subst (λ s. AreBounds f.ops w s (with_items inside.bounds c.prove_list.new.bounds).items) (sym filled)
           (subst (AreBounds f.ops w (spec.script f.ops e ms w t)) (sym bounds_are) all.bounds);
     }
+
+pub prove_list-requires-clause-messages : goal.prove_list-requires-clause-messages
+prove_list-requires-clause-messages g c κs within = c.requires.messages

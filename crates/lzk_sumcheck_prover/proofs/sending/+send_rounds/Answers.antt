@@ -1,18 +1,20 @@
-use Rattle.std.proofs.Common.{◌≡◌, ◌≤◌, ◌+◌, ◌^◌, ℕ, suc, List, [], refl, length, ap, sym, ◌∙◌, ◌∷◌, arith, subst}
+use Rattle.std.proofs.Common.{◌≡◌, ◌≤◌, ◌+◌, ◌-◌, ◌*◌, ◌^◌, ℕ, suc, List, [], refl, length, drop, ap, sym, ◌∙◌, ◌∷◌, arith, subst}
+use Rattle.std.proofs.lemmas.List.{length-take, length-drop}
 use Rattle.std.specs.Prelude.{true, false}
 use Rattle.lzk_field.specs.Sums.{minus, entry}
 use Rattle.lzk_mle.specs.Multilinear.{tilde}
 use Rattle.lzk_sumcheck.specs.Rounds.{every_other}
 use Rattle.lzk_sumcheck_rounds.specs.Rows.{round_at}
-use Rattle.lzk_sumcheck.specs.Sending.{drawn_sent, AreSent}
+use Rattle.lzk_sumcheck.specs.Sending.{after_sent, drawn_sent, AreSent}
 use Rattle.lzk_sumcheck.specs.States.{bind_state, after, total}
 use Rattle.lzk_sumcheck_rounds.specs.Tables.{KeptTables, AreKept}
+use Rattle.lzk_sumcheck_rounds.proofs.RowLaws.{two-more}
 use Rattle.lzk_sumcheck_prover.proofs.SendLaws.{drawn-step, after-step, sent-step, rest-whole}
 use Rattle.lzk_sumcheck_prover.proofs.sending.+send_rounds.Goals as goal
 
 none-left : {X : Type 0} (xs : List X) → length xs ≡ 0 → xs ≡ []
 none-left [] e = refl
-none-left (x ∷ xs) e = absurd (omega arith)
+none-left (x ∷ xs) e = absurd (omega (arith, e))
 
 pub returns-clause-ra : goal.returns-clause-ra
 returns-clause-ra g t c =
@@ -125,3 +127,78 @@ returns-clause-bound g t c = λ st k.
     let summed = subst (AreKept o (rest + 1) (length a.rb.now) st) (sym c.sums-sums.ensures.same) kept in
     c.send_rounds-last.ensures.bound (bind_state o x st) (c.bind.ensures.kept rest (length a.rb.now) st summed)
     ∙ sym (ap (λ ds. (after o ds st).q 0 0) drawn)
+
+-- with no variable left
+pub last-requires-clause-first : goal.last-requires-clause-first
+last-requires-clause-first g t c = let one : 2 ^ length c.args.ra.now ≡ 1 = ap (λ n. 2 ^ n) c.in_default.ensures.cases in omega (arith, c.requires.first_fits, one)
+
+pub last-requires-clause-second : goal.last-requires-clause-second
+last-requires-clause-second g t c =
+    let none : length c.args.rb.now ≡ 0 = omega (arith, c.in_default.ensures.cases, c.requires.turn) in
+    let one : 2 ^ length c.args.rb.now ≡ 1 = ap (λ n. 2 ^ n) none in
+    omega (arith, c.requires.second_fits, one)
+
+pub returns-in_default-clause-room : goal.returns-in_default-clause-room
+returns-in_default-clause-room g t c = refl
+
+pub returns-in_default-clause-ra : goal.returns-in_default-clause-ra
+returns-in_default-clause-ra g t c =
+    let m = g.F.Field in
+    let a = c.args in
+    let none : length a.ra.now + length a.rb.now ≡ 0 = omega (arith, c.in_default.ensures.cases, c.requires.turn) in
+    none-left a.ra.now c.in_default.ensures.cases ∙ sym (ap (λ n. every_other true (drawn_sent m.ops m.coding a.sent.now n a.tape.now)) none)
+
+pub returns-in_default-clause-rb : goal.returns-in_default-clause-rb
+returns-in_default-clause-rb g t c =
+    let m = g.F.Field in
+    let a = c.args in
+    let none : length a.rb.now ≡ 0 = omega (arith, c.in_default.ensures.cases, c.requires.turn) in
+    let all : length a.ra.now + length a.rb.now ≡ 0 = omega (arith, c.in_default.ensures.cases, none) in
+    none-left a.rb.now none ∙ sym (ap (λ n. every_other false (drawn_sent m.ops m.coding a.sent.now n a.tape.now)) all)
+
+pub returns-in_default-clause-after : goal.returns-in_default-clause-after
+returns-in_default-clause-after g t c =
+    let m = g.F.Field in
+    let a = c.args in
+    let none : length a.ra.now + length a.rb.now ≡ 0 = omega (arith, c.in_default.ensures.cases, c.requires.turn) in
+    sym (ap (λ n. after_sent m.ops m.coding a.sent.now n a.tape.now) none)
+
+pub returns-in_default-clause-sent : goal.returns-in_default-clause-sent
+returns-in_default-clause-sent g t c = λ st k.
+    let none : length c.args.ra.now + length c.args.rb.now ≡ 0 = omega (arith, c.in_default.ensures.cases, c.requires.turn) in
+    record { first = λ i h. absurd (omega (arith, h, none)); second = λ i h. absurd (omega (arith, h, none)) }
+
+-- with one variable more
+pub split_at_mut-now-requires : goal.split_at_mut-now-requires
+split_at_mut-now-requires g t c = omega (arith, c.requires.sent, ap length c.in-Some.ensures.cases.0)
+
+pub send_round-x-requires-clause-pads : goal.send_round-x-requires-clause-pads
+send_round-x-requires-clause-pads g t c = omega (arith, c.requires.pads, ap length c.in-Some.ensures.cases.0)
+
+pub send_round-x-requires-clause-room : goal.send_round-x-requires-clause-room
+send_round-x-requires-clause-room g t c = omega (arith, c.split_at_mut-now.ensures.front_len)
+
+pub send_rounds-last-requires-clause-turn : goal.send_rounds-last-requires-clause-turn
+send_rounds-last-requires-clause-turn g t c = omega (arith, c.requires.next, ap length c.in-Some.ensures.cases.0)
+
+pub send_rounds-last-requires-clause-next : goal.send_rounds-last-requires-clause-next
+send_rounds-last-requires-clause-next g t c = omega (arith, c.requires.turn, ap length c.in-Some.ensures.cases.0)
+
+pub send_rounds-last-requires-clause-first_fits : goal.send_rounds-last-requires-clause-first_fits
+send_rounds-last-requires-clause-first_fits g t c =
+    omega (arith, ap length c.bind.ensures.first, ap (λ (ts : KeptTables _). length ts.second) c.sums-sums.ensures.same, c.requires.second_fits)
+
+pub send_rounds-last-requires-clause-second_fits : goal.send_rounds-last-requires-clause-second_fits
+send_rounds-last-requires-clause-second_fits g t c =
+    let rest = length c.in-Some.ra.now in
+    let one : length c.args.ra.now ≡ rest + 1 = omega (arith, ap length c.in-Some.ensures.cases.0) in
+    let twice : 2 ^ length c.args.ra.now ≡ 2 * 2 ^ rest = ap (λ n. 2 ^ n) one ∙ two-more rest in
+    omega (arith, c.bind.ensures.half, ap (λ (ts : KeptTables _). length ts.first) c.sums-sums.ensures.same, c.requires.first_fits, twice)
+
+pub send_rounds-last-requires-clause-pads : goal.send_rounds-last-requires-clause-pads
+send_rounds-last-requires-clause-pads g t c =
+    let pads = c.args.pads.now in
+    omega (arith, length-take (length pads - 2) (drop 2 pads), length-drop 2 pads, c.requires.pads, ap length c.in-Some.ensures.cases.0)
+
+pub send_rounds-last-requires-clause-sent : goal.send_rounds-last-requires-clause-sent
+send_rounds-last-requires-clause-sent g t c = omega (arith, c.split_at_mut-now.ensures.back_len, c.requires.sent, ap length c.in-Some.ensures.cases.0)

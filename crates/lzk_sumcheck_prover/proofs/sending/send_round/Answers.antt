@@ -28,3 +28,9 @@ returns-clause-second g c =
     let value = c.at-high.ensures ∙ ap (round_at o a.sums) c.point-2.ensures in
     get_or-set_same (slice_set sent 0 low) 1 c.sub-2.result o.zero (omega (arith, c.requires.room, length-set sent 0 low))
     ∙ c.sub-2.ensures ∙ ap (λ w. minus o w c.index-pads-1.result) value ∙ ap (minus o (round_at o a.sums (m.coding.element 2))) pad
+
+pub returns-clause-challenge : goal.returns-clause-challenge
+returns-clause-challenge g c = c.replay_round.ensures.challenge
+
+pub returns-clause-after : goal.returns-clause-after
+returns-clause-after g c = c.replay_round.ensures.after

@@ -71,3 +71,18 @@ returns g c =
           ∙ ap (λ q. sum_below o each (λ i. product_at o row first t (q * each + i))) number in
           c.add_parts.ensures t ∙ parts-sum o m.laws.ring count each half row first (λ k. round_at o (sums_in o ys (k * size)) t) t one all fits;
     }
+
+pub sum_whole-requires-after_bounds : goal.sum_whole-requires-after_bounds
+sum_whole-requires-after_bounds g c = omega (arith, c.requires)
+
+pub returns-then-parts-eq1 : goal.returns-then-parts-eq1
+returns-then-parts-eq1 g c = c.sum_whole.ensures
+
+pub div_ceil-each-requires : goal.div_ceil-each-requires
+div_ceil-each-requires g c = omega (arith, c.parts_of-parts.ensures.some)
+
+pub div_ceil-count-requires : goal.div_ceil-count-requires
+div_ceil-count-requires g c =
+    let n = length c.args.round.now.first.now in
+    let share = shared n c.parts_of-parts.result c.div_ceil.result c.div_ceil-each.result c.args.round.now.matching.first c.parts_of-parts.ensures.some c.div_ceil.ensures c.div_ceil-each.ensures in
+    omega (arith, share.0)

@@ -1,8 +1,22 @@
-use Rattle.std.proofs.Common.{sym, ap, ◌∙◌, arith}
-use Rattle.std.proofs.lemmas.List.{get_or_past}
+use Rattle.std.proofs.Common.{sym, ap, ◌∙◌, refl, arith}
+use Rattle.std.proofs.lemmas.List.{get_or_past, length-set}
 use native.Mathlib.Decide.{dec_lt}
+use Rattle.lzk_field.specs.Sums.{entry}
 use Rattle.lzk_field.proofs.RingBasics.{times_zero}
+use Rattle.lzk_sumcheck.proofs.Filled.{filled_more}
 use Rattle.lzk_sumcheck_rounds.proofs.rows.set_multiples.Goals as goal
+
+pub loop-i-init : goal.loop-i-init
+loop-i-init g c = (refl, λ k h. absurd (omega (arith, h)))
+
+pub loop-i-preserved : goal.loop-i-preserved
+loop-i-preserved g c =
+    let o = g.F.Field.ops in
+    let l = c.loop-i in
+    let x = c.product_of.result in (
+      length-set l.rows l.i x ∙ l.invariant.0,
+      filled_more o.zero (λ k. o.times c.args.factor (entry o c.args.list.now k)) l.i l.rows x (omega (arith, l.invariant.0, c.loop-i-test.true)) (c.product_of.ensures ∙ ap (o.times c.args.factor) c.entry_at.ensures) l.invariant.1,
+    )
 
 pub returns : goal.returns
 returns g c = λ k.
@@ -12,5 +26,6 @@ returns g c = λ k.
     elim (dec_lt k c.loop-i.i) [
       | yes l ↦ inv.1 k l
       | no l ↦
-          get_or_past c.loop-i.rows k o.zero (omega (arith, inv.0, c.loop-i-test.false)) ∙ sym (ap (o.times c.args.factor) (get_or_past c.args.list.now k o.zero (omega (arith, inv.0, c.loop-i-test.false, c.requires))) ∙ times_zero o m.laws.ring c.args.factor)
+          get_or_past c.loop-i.rows k o.zero (omega (arith, inv.0, c.loop-i-test.false, l))
+          ∙ sym (ap (o.times c.args.factor) (get_or_past c.args.list.now k o.zero (omega (arith, inv.0, c.loop-i-test.false, c.requires, l))) ∙ times_zero o m.laws.ring c.args.factor)
     ]

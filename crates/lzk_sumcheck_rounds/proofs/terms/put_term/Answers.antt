@@ -1,4 +1,4 @@
-use Rattle.std.proofs.Common.{◌<◌, [], ◌∷◌, length, take, ap, ◌∙◌, sym, subst}
+use Rattle.std.proofs.Common.{◌<◌, [], ◌∷◌, length, take, ap, ◌∙◌, sym, arith, subst}
 use Rattle.std.proofs.lemmas.List.{get_or_default}
 use Rattle.lzk_sumcheck_rounds.specs.Pairs.{spread, ArePairs}
 use Rattle.lzk_sumcheck_rounds.specs.Rows.{counted}
@@ -29,3 +29,18 @@ returns-else-pair-eq0-clause-sums g c = λ i j.
 
 pub returns-else-pair-eq0-clause-within : goal.returns-else-pair-eq0-clause-within
 returns-else-pair-eq0-clause-within g c = λ n m h hp. c.absorb.ensures.within n m h (subst (λ q. ArePairs n m (q ∷ [])) (sym c.pair_of-pair.ensures) hp)
+
+pub absorb-requires-after_bounds : goal.absorb-requires-after_bounds
+absorb-requires-after_bounds g c κs within = c.requires.place
+
+pub returns-then-pair-eq0-clause-count : goal.returns-then-pair-eq0-clause-count
+returns-then-pair-eq0-clause-count g c = omega arith
+
+pub returns-then-pair-eq0-clause-within : goal.returns-then-pair-eq0-clause-within
+returns-then-pair-eq0-clause-within g c = λ n m h hp. h
+
+pub returns-else-pair-eq0-clause-count : goal.returns-else-pair-eq0-clause-count
+returns-else-pair-eq0-clause-count g c = c.absorb.ensures.count
+
+pub bounds-linear-b : goal.bounds-linear-b
+bounds-linear-b g c = subst (λ q. q.b < length c.args.linear.now) (sym c.pair_of-pair.ensures) c.requires.linear

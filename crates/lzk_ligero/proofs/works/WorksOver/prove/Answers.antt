@@ -1,11 +1,40 @@
 use Rattle.std.specs.Prelude.{◌<◌, length, take, Some}
-use Rattle.std.proofs.Common.{refl, sym, subst}
+use Rattle.std.proofs.Common.{refl, sym, subst, ap, ◌∙◌}
 use Rattle.lzk_circuit.specs.Valid.{Wiring, IsValid}
 use Rattle.lzk_circuit.specs.Checks.{checks_of, IsSatisfied}
 use Rattle.lzk_circuit.specs.Wires.{inputs_of, IsFirstNonzero}
 use Rattle.lzk_ligero_proof.specs.Proving.{IsProofFile, words_of}
 use Rattle.lzk_ligero_steps.proofs.Outputs.{named-output}
 use Rattle.lzk_ligero.proofs.works.WorksOver.prove.Goals as goal
+
+pub invariant_of-plan : goal.invariant_of-plan
+invariant_of-plan g c = record { are = c.self.invariant.params; bounded = c.self.invariant.bounded }
+
+pub invariant_of-given : goal.invariant_of-given
+invariant_of-given g c =
+    let same = sym c.self.view_is in
+    record {
+      publics = c.requires.public ∙ ap (λ (w : Wiring g.row.F.Denot). w.publics) same;
+      privates = c.requires.private ∙ ap (λ (w : Wiring g.row.F.Denot). w.privates) same;
+    }
+
+pub evaluate-requires-clause-parts : goal.evaluate-requires-clause-parts
+evaluate-requires-clause-parts g c κs within = c.self.invariant
+
+pub invariant_of-crew : goal.invariant_of-crew
+invariant_of-crew g c = record { some = c.requires.some; few = c.requires.most }
+
+pub write-len-requires-clause-parts : goal.write-len-requires-clause-parts
+write-len-requires-clause-parts g c κs within = c.evaluate.ensures.parts
+
+pub write-len-requires-clause-values : goal.write-len-requires-clause-values
+write-len-requires-clause-values g c κs within = c.evaluate.ensures.values
+
+pub invariant_of-self : goal.invariant_of-self
+invariant_of-self g c = c.evaluate.ensures.parts
+
+pub invariant_of-self-2 : goal.invariant_of-self-2
+invariant_of-self-2 g c = c.write-len.ensures.parts
 
 pub fault-requires-after_bounds : goal.fault-requires-after_bounds
 fault-requires-after_bounds g c κs within =

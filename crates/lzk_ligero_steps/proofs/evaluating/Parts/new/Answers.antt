@@ -1,19 +1,27 @@
 use Rattle.std.proofs.Common.{arith, subst}
+use Rattle.lzk_circuit.specs.Checks.{HasRoom}
+use Rattle.lzk_ligero_steps.specs.Parts.{IsAnsweringFor, IsCommittedFor}
 use Rattle.lzk_ligero_steps.specs.Rooms.{IsRoomFor}
+use Rattle.lzk_ligero_steps.proofs.Together.{made, first_made, second_made}
 use Rattle.lzk_ligero_steps.proofs.evaluating.Parts.new.Goals as goal
 
 pub returns : goal.returns
 returns g c =
+    let f = g.F.Field in
+    let circuit = c.args.circuit.now in
+    let p = c.of-params.result in
     let params = c.of-params.ensures in
     let extenders = c.in_ok-extenders.ensures in
-    let committed = c.in_ok-new-2.ensures in
-    let answering = c.in_ok-new-3.ensures in
+    let rows = c.in_ok-values.ensures.first in
+    let values = first_made c.both-rows.result _ rows c.new.result (HasRoom f.coding.number circuit) c.both-rows.ensures.first c.new.ensures.room in
+    let committed = second_made c.both-rows.result _ rows c.new-2.result (IsCommittedFor circuit p c.larger-room.result) c.both-rows.ensures.second c.new-2.ensures in
+    let answering = made c.new-lines.result _ (IsAnsweringFor f.ops f.coding circuit p c.room_len-coefficient_room.result) c.in_ok-values.ensures.second c.new-lines.ensures in
     record {
       params = params.params;
       valid = params.valid;
       bounded = params.bounds;
-      values = c.in_ok-new.ensures.room.0;
-      checks = c.in_ok-new.ensures.room.1;
+      values = values.0;
+      checks = values.1;
       rows = record {
         short_reach = extenders.short;
         long_reach = extenders.long;
@@ -23,7 +31,7 @@ returns g c =
       coefficients = extenders.coefficients;
       tableau = committed.tableau;
       leaves = committed.leaves;
-      room = subst (λ n. IsRoomFor g.F.Field.ops c.args.circuit.now c.of-params.result n c.in_ok-new-3.field-0.room) c.room_len-coefficient_room.ensures.rooms answering.room;
+      room = subst (λ n. IsRoomFor f.ops circuit p n c.in_ok-values.answering.room) c.room_len-coefficient_room.ensures.rooms answering.room;
       sent = answering.sent;
       bytes = answering.bytes;
     }

@@ -143,3 +143,18 @@ returns-clause-second_least g c = λ n one holds.
     let size = whole-size i.second c.deref_mut-2.result.now c.pad_front-2.new.table c.deref_mut-2.ensures.value c.pad_front-2.auto.table in
     let taken = length-take-le c.table_size-size.result (with_items i.second c.pad_front-2.new.table).items (omega (arith, fits, size, c.self.invariant.0.second_places)) in
     omega (arith, taken, c.table_size-size.ensures.least n one holds)
+
+pub pad_front-requires-clause-values : goal.pad_front-requires-clause-values
+pad_front-requires-clause-values g c κs within = c.table_size-size.ensures.fits
+
+pub pad_front-requires-2-clause-values : goal.pad_front-requires-2-clause-values
+pad_front-requires-2-clause-values g c κs within = c.table_size-size.ensures.fits
+
+pub set_fronts-count-requires-clause-order : goal.set_fronts-count-requires-clause-order
+set_fronts-count-requires-clause-order g c κs within = c.requires.order
+
+pub set_fronts-count-requires-clause-terms : goal.set_fronts-count-requires-clause-terms
+set_fronts-count-requires-clause-terms g c κs within = c.requires.terms
+
+pub set_fronts-count-requires-clause-values : goal.set_fronts-count-requires-clause-values
+set_fronts-count-requires-clause-values g c κs within = c.table_size-size.ensures.fits

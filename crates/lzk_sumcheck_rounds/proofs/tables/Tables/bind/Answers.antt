@@ -137,3 +137,16 @@ returns-clause-kept g c = λ j k st h.
     let new = bind-kept o r j k st i.of_a p0 (take bp.result bp.new.pairs) i.scale bl.result.0 l0 (take bl.result.1 bl.new.linear) f0 s0 (take bt.result bt.new.table) x old
     bp.ensures.sums (λ a b. bl.ensures.entries a b) (λ n. bound-taken o r f0 bt.new.table bt.result x n (omega (arith, bt.ensures.half)) (omega (arith, fewt, bt.auto.table)) low) in
     kept-same o k j (bind_state o x st) (not i.of_a) bl.result.0 (take bp.result bp.new.pairs) _ (take bl.result.1 bl.new.linear) _ s0 _ (take bt.result bt.new.table) _ tp tl (ap (λ v. take i.second_count v.items) c.swap.ensures.x_after) tt1 new
+
+pub split_at_mut-table-requires : goal.split_at_mut-table-requires
+split_at_mut-table-requires g c = omega (arith, c.self.invariant.0.first, ap length c.deref_mut.ensures.value)
+
+pub split_at_mut-list-requires : goal.split_at_mut-list-requires
+split_at_mut-list-requires g c = omega (arith, c.self.invariant.0.linear, ap length c.deref_mut-2.ensures.value)
+
+pub split_at_mut-list-requires-2 : goal.split_at_mut-list-requires-2
+split_at_mut-list-requires-2 g c = omega (arith, c.self.invariant.0.pairs, ap length c.deref_mut-3.ensures.value)
+
+pub returns-clause-first : goal.returns-clause-first
+returns-clause-first g c =
+    ap (λ v. take c.self.inside.second_count v.items) c.swap.ensures.x_after ∙ ap (λ (v : KeptTables g.row.F.Denot). v.second) c.self.view_is

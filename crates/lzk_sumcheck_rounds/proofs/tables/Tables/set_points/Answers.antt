@@ -4,7 +4,8 @@ use Rattle.std.proofs.lemmas.List.{get_or-take, length-take-le, with_items_is}
 use Rattle.std.proofs.lemmas.Nat.{pow_pos}
 use Rattle.std.specs.Vec.{with_items}
 use Rattle.lzk_field.specs.Sums.{entry}
-use Rattle.lzk_sumcheck_rounds.proofs.TableLaws.{few-bits}
+use Rattle.lzk_sumcheck_rounds.specs.Tables.{KeptTables}
+use Rattle.lzk_sumcheck_rounds.proofs.TableLaws.{few-bits, room_of, whole-size}
 use Rattle.lzk_sumcheck_rounds.proofs.tables.Tables.set_points.Goals as goal
 
 pub overflow_cast-ra : goal.overflow_cast-ra
@@ -78,3 +79,33 @@ returns-clause-second g c = λ k h.
     let ns : length c.set_table-2.new.table ≡ i.second.len = omega (arith, c.set_table-2.auto.table, ap length c.deref_mut-2.ensures.value, i.second.ok.0) in
     get_or-take size (with_items i.second c.set_table-2.new.table).items k o.zero (omega (arith, h, c.power_of-size.ensures))
     ∙ ap (λ xs. entry o xs k) (with_items_is i.second c.set_table-2.new.table ns) ∙ c.set_table-2.ensures k (omega (arith, h, same))
+
+pub set_table-requires-clause-room : goal.set_table-requires-clause-room
+set_table-requires-clause-room g c κs within =
+    omega (arith, c.requires.room, ap (λ v. v.room.places) c.self.view_is, ap length c.deref_mut.ensures.value)
+
+pub set_table-requires-2-clause-room : goal.set_table-requires-2-clause-room
+set_table-requires-2-clause-room g c κs within =
+    let same : 2 ^ length c.args.rb.now ≡ 2 ^ length c.args.ra.now = ap (λ n. 2 ^ n) c.requires.same in
+    omega (arith, c.requires.room, ap (λ v. v.room.places) c.self.view_is, ap length c.deref_mut-2.ensures.value, c.self.invariant.0.second_places, same)
+
+pub returns-clause-room : goal.returns-clause-room
+returns-clause-room g c =
+    let i = c.self.inside in
+    ap (room_of (length i.pairs.items)) (whole-size i.first c.deref_mut.result.now c.set_table.new.table c.deref_mut.ensures.value c.set_table.auto.table)
+    ∙ ap (λ (v : KeptTables g.row.F.Denot). v.room) c.self.view_is
+
+pub returns-clause-first_length : goal.returns-clause-first_length
+returns-clause-first_length g c =
+    let i = c.self.inside in
+    let first = whole-size i.first c.deref_mut.result.now c.set_table.new.table c.deref_mut.ensures.value c.set_table.auto.table in
+    length-take-le c.power_of-size.result (with_items i.first c.set_table.new.table).items (omega (arith, first, c.power_of-size.ensures, c.requires.room, ap (λ v. v.room.places) c.self.view_is))
+    ∙ c.power_of-size.ensures
+
+pub returns-clause-second_length : goal.returns-clause-second_length
+returns-clause-second_length g c =
+    let i = c.self.inside in
+    let second = whole-size i.second c.deref_mut-2.result.now c.set_table-2.new.table c.deref_mut-2.ensures.value c.set_table-2.auto.table in
+    length-take-le c.power_of-size.result (with_items i.second c.set_table-2.new.table).items
+    (omega (arith, second, c.self.invariant.0.second_places, c.power_of-size.ensures, c.requires.room, ap (λ v. v.room.places) c.self.view_is))
+    ∙ c.power_of-size.ensures
