@@ -1,7 +1,8 @@
 //! The lines that a run prints.
 
-ghost use Rattle.std.specs.Prelude.{◌≡◌, ◌++◌, IfOk, OnOk, string_bytes};
+ghost use Rattle.std.specs.Prelude.{◌≡◌, ◌++◌, IfOk, OnOk, codes, string_bytes};
 ghost use Rattle.std.specs.Option.{option_copied};
+ghost use Rattle.hex.specs.Hex.{encode_lower};
 ghost use Rattle.lzk_cmd_files.specs.Lines as lines;
 
 use lzk_circbytes::{ByteFault, ByteKind};
@@ -263,6 +264,31 @@ fn push_version(text: &mut String, version: u8) -> Result<(), AllocError>
     }
 }
 
+// Puts the line of a circuit's id behind a text.
+fn push_id(alloc: Global, text: &mut String, digest: &[u8]) -> Result<(), AllocError>
+    ensures { OnOk result
+        (string_bytes text.new ≡ string_bytes text.old ++ lines.pair_line (codes "id") (encode_lower digest.now)) }
+{
+    let digits = hex::encode(alloc, digest)?;
+    push_pair(text, "id", &digits)
+}
+
+// Puts the lines of a circuit's counts behind a text.
+fn push_counts(
+    text: &mut String,
+    publics: u32,
+    privates: u32,
+    layers: u32,
+) -> Result<(), AllocError>
+    ensures { OnOk result (string_bytes text.new
+        ≡ string_bytes text.old ++ lines.count_line (codes "public") publics
+        ++ lines.count_line (codes "private") privates ++ lines.count_line (codes "layers") layers) }
+{
+    push_count(text, "public", publics)?;
+    push_count(text, "private", privates)?;
+    push_count(text, "layers", layers)
+}
+
 /// The lines of a circuit's field, of its version where it is 2, and of its id and counts.
 pub fn tell_counts(
     alloc: Global,
@@ -276,14 +302,11 @@ pub fn tell_counts(
     ensures { IfOk result
         (λ s. string_bytes s ≡ lines.counts_lines field.now version digest.now publics privates layers) }
 {
-    let digits = hex::encode(alloc, digest)?;
     let mut text = String::new(alloc);
     push_pair(&mut text, "field", field)?;
     push_version(&mut text, version)?;
-    push_pair(&mut text, "id", &digits)?;
-    push_count(&mut text, "public", publics)?;
-    push_count(&mut text, "private", privates)?;
-    push_count(&mut text, "layers", layers)?;
+    push_id(alloc, &mut text, digest)?;
+    push_counts(&mut text, publics, privates, layers)?;
     Ok(text)
 }
 

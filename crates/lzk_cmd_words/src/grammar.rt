@@ -96,10 +96,10 @@ pub(crate) fn request_of(words: &[String]) -> Option<Request<'_>>
     ensures { option_map request_view result ≡ texts.request_of (map (λ w. string_bytes w) words.now) }
 {
     match words {
-        [word, rest @ ..] => {
-            let verb = verb_of(word.as_str())?;
-            behind_verb(verb, rest)
-        }
+        [word, rest @ ..] => match verb_of(word.as_str()) {
+            Some(verb) => behind_verb(verb, rest),
+            None => None,
+        },
         [] => None,
     }
 }

@@ -200,7 +200,10 @@ pub(crate) fn keys_of(words: &[String]) -> Option<Keys<'_>>
         version: None,
     };
     for i in 0..words.len() {
-        keys = with_key(keys, words[i].as_bytes())?;
+        let Some(next) = with_key(keys, words[i].as_bytes()) else {
+            return None;
+        };
+        keys = next;
     }
     Some(keys)
 }

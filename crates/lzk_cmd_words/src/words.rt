@@ -166,7 +166,9 @@ fn prove_of<'a>(names: &'a [String], keys: &Keys<'a>) -> Option<Command<'a>>
 {
     match names {
         [circuit, public, private, proof] => {
-            let seed = keys.seed?;
+            let Some(seed) = keys.seed else {
+                return None;
+            };
             Some(Command::Prove(ProveWords {
                 circuit: circuit.as_str(),
                 public: public.as_str(),
@@ -218,7 +220,9 @@ fn demo_of<'a>(names: &'a [String], keys: &Keys<'a>) -> Option<Command<'a>>
 {
     match names {
         [count] => {
-            let seed = keys.seed?;
+            let Some(seed) = keys.seed else {
+                return None;
+            };
             Some(Command::Demo {
                 count: count.as_str(),
                 seed,
@@ -250,8 +254,12 @@ fn sha256_of<'a>(names: &'a [String], keys: &Keys<'a>) -> Option<Command<'a>>
 {
     match names {
         [circuit, proof] => {
-            let message = keys.message?;
-            let seed = keys.seed?;
+            let Some(message) = keys.message else {
+                return None;
+            };
+            let Some(seed) = keys.seed else {
+                return None;
+            };
             Some(Command::Sha256(HashWords {
                 circuit: circuit.as_str(),
                 proof: proof.as_str(),
@@ -290,6 +298,8 @@ pub fn parse_words(words: &[String]) -> Option<Command<'_>>
         (command_of (map (λ w. string_bytes w) words.now) ≡ None)
         (λ c. command_of (map (λ w. string_bytes w) words.now) ≡ Some (command_view c)) }
 {
-    let request = request_of(words)?;
-    built(request.verb, request.names, &request.keys)
+    match request_of(words) {
+        Some(request) => built(request.verb, request.names, &request.keys),
+        None => None,
+    }
 }

@@ -81,6 +81,20 @@ fn open_at<R: Files>(rt: &R, alloc: Global, name: &str, from: u64) -> io::Result
     })
 }
 
+// The file that is kept, where it goes on from this place, or else the one that is opened there.
+fn reading_at<R: Files>(
+    rt: &R,
+    alloc: Global,
+    kept: Option<Reading<R::File>>,
+    name: &str,
+    from: u64,
+) -> io::Result<Reading<R::File>> {
+    match kept {
+        Some(reading) if goes_on(&reading, name, from) => Ok(reading),
+        _ => open_at(rt, alloc, name, from),
+    }
+}
+
 // Reads once from a place of a file on, and keeps it open for what comes next.
 fn read_on<R: Files>(
     rt: &R,
@@ -92,10 +106,7 @@ fn read_on<R: Files>(
 ) -> io::Result<usize>
     ensures { IfOk result (λ n. n ≤ length buf.new) }
 {
-    let mut reading = match kept.take() {
-        Some(reading) if goes_on(&reading, name, from) => reading,
-        _ => open_at(rt, alloc, name, from)?,
-    };
+    let mut reading = reading_at(rt, alloc, kept.take(), name, from)?;
     let count = reading.file.read(buf)?;
     reading.at = from.saturating_add(count as u64);
     *kept = Some(reading);

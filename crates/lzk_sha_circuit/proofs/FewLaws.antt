@@ -23,7 +23,7 @@ module _ {A : Type 0} (o : Ops A) where
   no_terms (t ∷ ts) l = absurd (omega (arith, l))
 
   -- at first none
-  pub sum-starts : (products : List (Product A)) (i : ℕ) (row : List (Term A)) → length products ≤ i → row ≡ [] → IsSum (drop i products) row
+  sum-starts : (products : List (Product A)) (i : ℕ) (row : List (Term A)) → length products ≤ i → row ≡ [] → IsSum (drop i products) row
   sum-starts products i row l e = subst (λ ps. IsSum ps row) (sym (drop_all i products l)) (subst (IsSum []) (sym e) (record {
     terms = λ width h. tt;
     value = λ below. refl;
@@ -64,3 +64,10 @@ module _ {A : Type 0} (o : Ops A) where
   sum-adds products i n p old new some l m e row value short alone s =
       subst (λ ps. IsSum ps new) (sym (drop_more products i p l ∙ ap (λ q. q ∷ drop (i + 1) products) (sym e)))
       (sum_more p (drop (i + 1) products) old new some row value short alone (subst (λ k. IsSum (drop k products) old) m s))
+
+  -- before any is added, and when all are
+  pub sum-none : (products : List (Product A)) (row : List (Term A)) → row ≡ [] → IsSum (drop (length products) products) row
+  sum-none products row e = sum-starts products (length products) row (omega arith) e
+
+  pub sum-whole : (products : List (Product A)) (i : ℕ) (row : List (Term A)) → i ≤ 0 → IsSum (drop i products) row → IsSum products row
+  sum-whole products i row l s = let first : i ≡ 0 = omega (arith, l) in subst (λ k. IsSum (drop k products) row) first s

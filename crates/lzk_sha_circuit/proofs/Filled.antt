@@ -3,12 +3,12 @@ use Rattle.std.specs.Prelude.{◌≡◌, ℕ, ◌+◌, ◌-◌, ◌*◌, ◌%◌
 use Rattle.std.specs.List.{range_with_len, flat_map}
 use Rattle.std.proofs.Common.{sym, ap, ◌∙◌, arith, get_or-take, append_assoc}
 use Rattle.std.proofs.lemmas.List.{take_more, flat_map_more}
-use Rattle.sha2.specs.Sha256.{word_at, schedule, next_word, compress, rounds, round, round_constants, add32, temp1, temp2}
+use Rattle.sha2.specs.Sha256.{word_at, schedule, compress, rounds, round, round_constants}
 use Rattle.sha2.specs.Sha256 as standard
 use Rattle.sha2.proofs.Schedule256.{slice_index-schedule_first, slice_index-schedule_next, length-schedule, rounds_next}
-use Rattle.lzk_sha_circuit.specs.Inputs.{compression_private, sum_list, schedule_list, round_list, rounds_list, final_list, next_total, first_total, second_total}
+use Rattle.lzk_sha_circuit.specs.Inputs.{compression_private, sum_list, schedule_list, round_list, rounds_list, final_list, next_total}
 use Rattle.lzk_sha_circuit.proofs.Written.{chunk_more}
-use Rattle.lzk_sha_circuit.proofs.Standard.{next_word_is, a_of_round, e_of_round}
+use Rattle.lzk_sha_circuit.proofs.Standard.{next_word_is}
 
 pub byte_more : {X : Type 0} (f : ℕ → List X) (bytes : List ℕ) (before old new : List X) (i byte : ℕ) → i < length bytes → old ≡ before ++ flat_map f (take i bytes) → new ≡ old ++ f byte → byte ≡ slice_index bytes i
     → new ≡ before ++ flat_map f (take (i + 1) bytes)
@@ -61,14 +61,6 @@ module _ {A : Type 0} (element : ℕ → A) where
 
 pub variables_more : (h ws v next : List ℕ) (t k w : ℕ) → next ≡ round v k w → v ≡ rounds h ws t → k ≡ slice_index round_constants t → w ≡ slice_index ws t → next ≡ rounds h ws (t + 1)
 variables_more h ws v next t k w en ev ek ew = en ∙ (λ j. round (ev j) (ek j) (ew j)) ∙ sym (rounds_next h ws t)
-
--- a round, from the two sums
-pub round_from : (a b c d e f g h k w : ℕ) (next_a next_e : ℕ) → let v = a ∷ b ∷ c ∷ d ∷ e ∷ f ∷ g ∷ h ∷ [] in
-    next_a ≡ (first_total v k w + second_total v) % 2 ^ 32 → next_e ≡ (slice_index v 3 + first_total v k w) % 2 ^ 32
-    → next_a ∷ a ∷ b ∷ c ∷ next_e ∷ e ∷ f ∷ g ∷ [] ≡ round v k w
-round_from a b c d e f g h k w next_a next_e ea ee =
-    let v = a ∷ b ∷ c ∷ d ∷ e ∷ f ∷ g ∷ h ∷ [] in
-    λ i. (ea ∙ sym (a_of_round v k w)) i ∷ a ∷ b ∷ c ∷ (ee ∙ sym (e_of_round v k w)) i ∷ e ∷ f ∷ g ∷ []
 
 -- ---- all parts together
 module _ {A : Type 0} (element : ℕ → A) (h block words v : List ℕ) (e_words : words ≡ schedule block 48) (e_v : v ≡ rounds h words 64) where

@@ -1,10 +1,10 @@
 -- Lists that grow by one entry or one chunk.
-use Rattle.std.specs.Prelude.{◌≡◌, ℕ, ◌+◌, ◌-◌, ◌*◌, ◌%◌, ◌^◌, ◌≤◌, List, [], ◌∷◌, ◌++◌, map, length, replicate}
+use Rattle.std.specs.Prelude.{◌≡◌, ℕ, ◌+◌, ◌-◌, ◌*◌, ◌%◌, ◌^◌, ◌≤◌, List, [], ◌∷◌, ◌++◌, map, length, take, replicate, Result, Ok, Err, OnOk, is_ok, if◌then◌else◌}
 use Rattle.std.specs.Int.{w64, to_be_bytes}
 use Rattle.sha2.specs.Sha256.{padded_message}
 use Rattle.std.specs.List.{range_with_len, flat_map}
 use Rattle.std.proofs.Common.{sym, ap, ◌∙◌, arith, append_assoc, append-nil}
-use Rattle.std.proofs.lemmas.List.{map-id, replicate_more}
+use Rattle.std.proofs.lemmas.List.{map-id, take_all, length-append}
 use Rattle.std.proofs.lemmas.List.FromFn.{map-range_with_len_more}
 use Rattle.std.proofs.lemmas.List.Concat.{flat_map-append}
 
@@ -31,11 +31,12 @@ chunk_more f before old new chunk a n j eo en ec e =
 pub two_more : {X : Type 0} (before old new a b x y : List X) → old ≡ before ++ a → new ≡ old ++ b → a ≡ x → b ≡ y → new ≡ before ++ (x ++ y)
 two_more before old new a b x y eo en ea eb = en ∙ (λ i. eo i ++ eb i) ∙ ap (λ l. before ++ l ++ y) ea ∙ append_assoc before x y
 
-pub zero_more : (m old new : List ℕ) (i : ℕ) → length m ≤ i → old ≡ m ++ 0x80 ∷ replicate (i - length m) 0 → new ≡ old ++ 0 ∷ [] → new ≡ m ++ 0x80 ∷ replicate (i + 1 - length m) 0
-zero_more m old new i le eo en =
-    let e : i - length m + 1 ≡ i + 1 - length m = omega arith in
-    en ∙ ap (λ l. l ++ 0 ∷ []) eo ∙ append_assoc m (0x80 ∷ replicate (i - length m) 0) (0 ∷ [])
-    ∙ ap (λ l. m ++ 0x80 ∷ l) (replicate_more (i - length m) 0 ∙ ap (λ n. replicate n 0) e)
+-- zeros behind the one bit
+pub filled : (m old new : List ℕ) (end n : ℕ) → old ≡ m ++ 0x80 ∷ [] → n ≡ length old → length m ≤ end → new ≡ take (end + 1) old ++ replicate (end + 1 - n) 0 → new ≡ m ++ 0x80 ∷ replicate (end - length m) 0
+filled m old new end n eo en le e =
+    let long : length old ≡ length m + 1 = ap length eo ∙ length-append m (0x80 ∷ []) in
+    let count : end + 1 - n ≡ end - length m = omega (arith, long, en) in
+    e ∙ (λ i. (take_all (end + 1) old (omega (arith, long, le)) ∙ eo) i ++ replicate (count i) 0) ∙ append_assoc m (0x80 ∷ []) (replicate (end - length m) 0)
 
 pub padded_is : (m block new bytes : List ℕ) (i count : ℕ) → length m ≤ 503 → i ≡ length m + (119 - length m % 64) % 64 → block ≡ m ++ 0x80 ∷ replicate (i - length m) 0 → new ≡ block ++ bytes
     → bytes ≡ to_be_bytes w64 count → count ≡ 8 * length m → new ≡ padded_message m
@@ -51,3 +52,11 @@ more_of p q r a b eq er = er ∙ ap (λ l. l ++ b) eq ∙ append_assoc p a b
 
 pub from_none : {X : Type 0} (p q a : List X) → p ≡ [] → q ≡ p ++ a → q ≡ a
 from_none p q a ep eq = eq ∙ ap (λ l. l ++ a) ep
+
+-- more of a list, if there was memory for it
+pub these_more : {X E : Type 0} (r : Result (Unit {0}) E) (old new a b c : List X) → old ≡ a → new ≡ (if is_ok r then old ++ b else old) → b ≡ c → OnOk r (new ≡ a ++ c)
+these_more (Ok x) old new a b c eo en e = en ∙ (λ i. eo i ++ e i)
+these_more (Err y) old new a b c eo en e = tt
+
+pub only_these : {X E : Type 0} (r : Result (Unit {0}) E) (old new b c : List X) → old ≡ [] → new ≡ (if is_ok r then old ++ b else old) → b ≡ c → OnOk r (new ≡ c)
+only_these r old new b c eo en e = these_more r old new [] b c eo en e

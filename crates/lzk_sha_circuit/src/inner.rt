@@ -9,7 +9,7 @@ ghost use Rattle.lzk_sha_circuit.specs.Layers.{IsBuilt, Grows, input_count, pass
 use crate::entries::{Word, turned_entry};
 use crate::given::Given;
 use crate::placed::{Ors, Placed};
-use crate::products::{Product, push_or};
+use crate::products::{Product, or_of};
 use crate::rounds::{LaterRound, Round};
 use crate::rows::push_row;
 use lzk_circuit::Term;
@@ -46,13 +46,9 @@ fn push_pairs(
         (pair_rows ops of_number (places_of given.now) x.0.word x.1 y.0.word y.1) terms.new.items) }
 {
     for i in 0..32 {
-        let mut products = Vec::new(alloc);
-        push_or(
-            Gold::one(),
-            turned_entry(given, x.0, x.1, i),
-            turned_entry(given, y.0, y.1, i),
-            &mut products,
-        )?;
+        let first = turned_entry(given, x.0, x.1, i);
+        let second = turned_entry(given, y.0, y.1, i);
+        let products = or_of(Gold::one(), first, second);
         push_row(alloc, ors.first + i, &products, terms)?;
     }
     Ok(())
@@ -71,12 +67,15 @@ fn push_schedule_pairs(
 {
     let t = round.t;
     let first = given.inputs + 6385 + 64 * (t - 16);
-    let (two, fifteen) = (Word::Schedule(t - 2), Word::Schedule(t - 15));
-    let (two, fifteen) = (Placed { word: two }, Placed { word: fifteen });
+    let two = Placed {
+        word: Word::Schedule(t - 2),
+    };
     push_pairs(alloc, given, Ors { first }, (two, 17), (two, 19), terms)?;
+    let fifteen = Placed {
+        word: Word::Schedule(t - 15),
+    };
     let next = Ors { first: first + 32 };
-    push_pairs(alloc, given, next, (fifteen, 7), (fifteen, 18), terms)?;
-    Ok(())
+    push_pairs(alloc, given, next, (fifteen, 7), (fifteen, 18), terms)
 }
 
 // Those of Σ1, Σ0 and Maj for a round.
@@ -92,13 +91,20 @@ fn push_round_pairs(
 {
     let t = round.t;
     let first = given.inputs + 9457 + 96 * t;
-    let (a, b, e) = (Word::A(t + 3), Word::A(t + 2), Word::E(t + 3));
-    let (a, b, e) = (Placed { word: a }, Placed { word: b }, Placed { word: e });
-    let (second, third) = (Ors { first: first + 32 }, Ors { first: first + 64 });
+    let e = Placed {
+        word: Word::E(t + 3),
+    };
     push_pairs(alloc, given, Ors { first }, (e, 6), (e, 11), terms)?;
+    let a = Placed {
+        word: Word::A(t + 3),
+    };
+    let second = Ors { first: first + 32 };
     push_pairs(alloc, given, second, (a, 2), (a, 13), terms)?;
-    push_pairs(alloc, given, third, (a, 0), (b, 0), terms)?;
-    Ok(())
+    let b = Placed {
+        word: Word::A(t + 2),
+    };
+    let third = Ors { first: first + 64 };
+    push_pairs(alloc, given, third, (a, 0), (b, 0), terms)
 }
 
 // The terms of the inner layer.

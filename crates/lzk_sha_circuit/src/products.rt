@@ -1,6 +1,6 @@
 //! Sums of products of wires.
 
-ghost use Rattle.std.specs.Prelude.{◌≡◌, ℕ, ◌+◌, ◌^◌, ◌<◌, ◌≤◌, ◌++◌, OnOk};
+ghost use Rattle.std.specs.Prelude.{◌≡◌, ◌^◌, ◌<◌};
 ghost use Rattle.lzk_goldilocks.specs.Elements.{ops, of_number};
 ghost use Rattle.lzk_sha_circuit.specs.Products.{linear, bilinear, or_list, chosen_list, most_list};
 
@@ -9,18 +9,34 @@ use lzk_goldilocks::Gold;
 use std::alloc::AllocError;
 
 /// `coef` times two wires of the layer below.
-#[derive(Clone, Copy)]
+#[derive(Copy)]
 pub(crate) struct Product<F> {
     pub coef: F,
     pub a: u32,
     pub b: u32,
 }
 
+impl<F: Copy> Clone for Product<F> {
+    ghost is_clone = { λ product copy. copy ≡ product };
+
+    fn clone(&self) -> Result<Product<F>, AllocError> {
+        Ok(*self)
+    }
+}
+
 /// `factor` times a wire: an entry of a word.
-#[derive(Clone, Copy)]
+#[derive(Copy)]
 pub(crate) struct Entry<F> {
     pub factor: F,
     pub wire: u32,
+}
+
+impl<F: Copy> Clone for Entry<F> {
+    ghost is_clone = { λ entry copy. copy ≡ entry };
+
+    fn clone(&self) -> Result<Entry<F>, AllocError> {
+        Ok(*self)
+    }
 }
 
 // 2 to the power of `i`.
@@ -54,48 +70,35 @@ pub(crate) fn bilinear(scale: Gold, x: Entry<Gold>, y: Entry<Gold>) -> Product<G
 }
 
 // x + y - 2 * x * y, times a scale.
-pub(crate) fn push_or(
-    scale: Gold,
-    x: Entry<Gold>,
-    y: Entry<Gold>,
-    products: &mut Vec<Product<Gold>>,
-) -> Result<(), AllocError>
-    ensures { OnOk result (products.new.items ≡ products.old.items ++ or_list ops of_number scale x y) }
+pub(crate) fn or_of(scale: Gold, x: Entry<Gold>, y: Entry<Gold>) -> [Product<Gold>; 3]
+    ensures { result ≡ or_list ops of_number scale x y }
 {
-    products.push(linear(scale, x))?;
-    products.push(linear(scale, y))?;
-    products.push(bilinear(Gold::of_word(2).mul(scale).neg(), x, y))?;
-    Ok(())
+    let both = bilinear(Gold::of_word(2).mul(scale).neg(), x, y);
+    [linear(scale, x), linear(scale, y), both]
 }
 
 // e * f - e * g + g, times a scale.
-pub(crate) fn push_chosen(
+pub(crate) fn chosen_of(
     scale: Gold,
     e: Entry<Gold>,
     f: Entry<Gold>,
     g: Entry<Gold>,
-    products: &mut Vec<Product<Gold>>,
-) -> Result<(), AllocError>
-    ensures { OnOk result (products.new.items ≡ products.old.items ++ chosen_list ops scale e f g) }
+) -> [Product<Gold>; 3]
+    ensures { result ≡ chosen_list ops scale e f g }
 {
-    products.push(bilinear(scale, e, f))?;
-    products.push(bilinear(scale.neg(), e, g))?;
-    products.push(linear(scale, g))?;
-    Ok(())
+    let less = bilinear(scale.neg(), e, g);
+    [bilinear(scale, e, f), less, linear(scale, g)]
 }
 
 // x * y + z * u, times a scale.
-pub(crate) fn push_most(
+pub(crate) fn most_of(
     scale: Gold,
     x: Entry<Gold>,
     y: Entry<Gold>,
     z: Entry<Gold>,
     u: Entry<Gold>,
-    products: &mut Vec<Product<Gold>>,
-) -> Result<(), AllocError>
-    ensures { OnOk result (products.new.items ≡ products.old.items ++ most_list ops scale x y z u) }
+) -> [Product<Gold>; 2]
+    ensures { result ≡ most_list ops scale x y z u }
 {
-    products.push(bilinear(scale, x, y))?;
-    products.push(bilinear(scale, z, u))?;
-    Ok(())
+    [bilinear(scale, x, y), bilinear(scale, z, u)]
 }

@@ -9,7 +9,7 @@ ghost use Rattle.lzk_sha_circuit.specs.Layers.{word_entry, bits_entry, wire_entr
 use crate::entries::{Move, bits_entry, entry, moved_entry, wire_entry};
 use crate::given::Given;
 use crate::placed::{Carried, Ors, Placed, Row};
-use crate::products::{Product, linear, power, push_chosen, push_most, push_or};
+use crate::products::{Product, chosen_of, linear, most_of, or_of, power};
 use lzk_field::Field;
 use lzk_goldilocks::Gold;
 use std::alloc::AllocError;
@@ -59,12 +59,9 @@ pub(crate) fn push_or_word(
         (moved_entry ops of_number (places_of given.now) word.word by)) }
 {
     for i in 0..32 {
-        push_or(
-            power(i),
-            wire_entry(ors.first + i),
-            moved_entry(given, word, by, i),
-            products,
-        )?;
+        let x = wire_entry(ors.first + i);
+        let y = moved_entry(given, word, by, i);
+        products.extend_from_slice(&or_of(power(i), x, y))?;
     }
     Ok(())
 }
@@ -84,7 +81,7 @@ pub(crate) fn push_ch(
 {
     for i in 0..32 {
         let (e, f, g) = (entry(given, e, i), entry(given, f, i), entry(given, g, i));
-        push_chosen(power(i), e, f, g, products)?;
+        products.extend_from_slice(&chosen_of(power(i), e, f, g))?;
     }
     Ok(())
 }
@@ -106,7 +103,8 @@ pub(crate) fn push_maj(
 {
     for i in 0..32 {
         let (x, y, z) = (entry(given, x, i), entry(given, y, i), entry(given, z, i));
-        push_most(power(i), x, y, z, wire_entry(ors.first + i), products)?;
+        let u = wire_entry(ors.first + i);
+        products.extend_from_slice(&most_of(power(i), x, y, z, u))?;
     }
     Ok(())
 }

@@ -1,3 +1,4 @@
+use Rattle.lzk_cmd_files.proofs.Sights.{reads_then}
 use Rattle.std.proofs.Common.{ap, map}
 use Rattle.lzk_batch.specs.Lists.{entry_view}
 use Rattle.lzk_cmd_files.specs.Seen.{seen}
@@ -17,3 +18,15 @@ pub returns-clause-walks : goal.returns-clause-walks
 returns-clause-walks g c =
     tells c.args.list.now (seen g.S.Shelf c.args.shelf.now) (seen g.S.Shelf c.read_list.new.shelf) (seen g.S.Shelf c.read_jobs.new.shelf) c.in_ok-entries.entries c.in_ok-entries.ensures.reads c.in_ok-entries.ensures.gives c.in_ok-gathered.ensures.reads
     (map entry_view c.deref.result.now) c.in_ok-gathered.gathered c.in_ok-judge.field-0 (ap (map entry_view) c.deref.ensures.value) c.in_ok-gathered.ensures.gives c.in_ok-judge.ensures
+
+pub returns-in_err-entries-clause-reads : goal.returns-in_err-entries-clause-reads
+returns-in_err-entries-clause-reads g c = c.read_list.ensures.reads
+
+pub returns-in_err-gathered-clause-reads : goal.returns-in_err-gathered-clause-reads
+returns-in_err-gathered-clause-reads g c = reads_then (seen g.S.Shelf c.args.shelf.now) (seen g.S.Shelf c.read_list.new.shelf) (seen g.S.Shelf c.read_jobs.new.shelf) c.read_list.ensures.reads c.read_jobs.ensures.reads
+
+pub returns-in_err-judge-clause-reads : goal.returns-in_err-judge-clause-reads
+returns-in_err-judge-clause-reads g c = reads_then (seen g.S.Shelf c.args.shelf.now) (seen g.S.Shelf c.read_list.new.shelf) (seen g.S.Shelf c.read_jobs.new.shelf) c.read_list.ensures.reads c.read_jobs.ensures.reads
+
+pub returns-clause-reads : goal.returns-clause-reads
+returns-clause-reads g c = reads_then (seen g.S.Shelf c.args.shelf.now) (seen g.S.Shelf c.read_list.new.shelf) (seen g.S.Shelf c.read_jobs.new.shelf) c.read_list.ensures.reads c.read_jobs.ensures.reads

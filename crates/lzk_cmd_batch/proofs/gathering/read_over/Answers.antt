@@ -1,3 +1,4 @@
+use Rattle.lzk_cmd_files.proofs.Sights.{no_step, reads_then}
 use Rattle.std.proofs.Common.{ℕ, List, Ok, Err, subst}
 use Rattle.lzk_batch.specs.Lists.{entry_view}
 use Rattle.lzk_cmd_batch.specs.Batched.{among}
@@ -27,3 +28,18 @@ returns-in_err-proof-clause-gives g c =
     let last = subst (λ (name : List ℕ). Gives (among c.in_ok-public.taken proof_files) items_with mid new name (Err h)) c.deref-3.ensures c.in_err-proof.ensures.gives in
     no_proof f.coding c.args.circuit.now (entry_view c.args.entry.now) c.args.place c.args.taken c.publics.result c.publics.ensures old mid new (c.in_ok-public.public, c.in_ok-public.taken) h _ c.in_ok-public.ensures.reads gives c.in_err-proof.ensures.reads last
     c.from_residual-in_err-proof.ensures.1
+
+pub returns-in_err-session-clause-reads : goal.returns-in_err-session-clause-reads
+returns-in_err-session-clause-reads g c = no_step (seen g.S.Shelf c.args.shelf.now)
+
+pub read_publics-requires-clause-taken : goal.read_publics-requires-clause-taken
+read_publics-requires-clause-taken g c = λ κs within. c.requires.taken
+
+pub returns-in_err-public-clause-reads : goal.returns-in_err-public-clause-reads
+returns-in_err-public-clause-reads g c = c.read_publics.ensures.reads
+
+pub returns-in_err-proof-clause-reads : goal.returns-in_err-proof-clause-reads
+returns-in_err-proof-clause-reads g c = reads_then (seen g.S.Shelf c.args.shelf.now) (seen g.S.Shelf c.read_publics.new.shelf) (seen g.S.Shelf c.read_proof.new.shelf) c.read_publics.ensures.reads c.read_proof.ensures.reads
+
+pub returns-clause-reads : goal.returns-clause-reads
+returns-clause-reads g c = reads_then (seen g.S.Shelf c.args.shelf.now) (seen g.S.Shelf c.read_publics.new.shelf) (seen g.S.Shelf c.read_proof.new.shelf) c.read_publics.ensures.reads c.read_proof.ensures.reads

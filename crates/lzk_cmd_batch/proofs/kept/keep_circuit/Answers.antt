@@ -1,3 +1,4 @@
+use Rattle.std.proofs.lemmas.Result.{IfOk-from_err}
 use Rattle.std.proofs.Common.{ℕ, Err, refl, ◌∙◌}
 use Rattle.lzk_circbytes.specs.declared.any.AnyCircuit.{AnyCircuit}
 use Rattle.lzk_cmd_files.specs.Decoded.{circuit_files}
@@ -24,3 +25,39 @@ pub returns-clause-kept : goal.returns-clause-kept
 returns-clause-kept g c =
     put_behind (g.S.Shelf.held c.args.shelf.now) c.args.kept.now (record { files = c.push.new.self; all = c.push-2.new.self }) c.args.name c.in_ok-circuit.field-0.circuit c.in_ok-circuit.field-0.id c.in_ok-bytes.bytes.items c.deref.result.now c.len-2.result
     c.requires.kept c.in_ok-push.ensures.items c.in_ok-push-2.ensures.items c.deref.ensures.value (c.len-2.ensures ∙ c.in_ok-bytes.bytes.ok.0) c.in_ok-bytes.ensures.fits c.in_ok-bytes.ensures.gives c.in_ok-circuit.ensures.decodes c.in_ok-circuit.ensures.id
+
+pub returns-in_err-bytes-clause-kept : goal.returns-in_err-bytes-clause-kept
+returns-in_err-bytes-clause-kept g c = IfOk-from_err _ _ c.from_residual.ensures.0
+
+pub returns-in_err-bytes-clause-reads : goal.returns-in_err-bytes-clause-reads
+returns-in_err-bytes-clause-reads g c = c.read_file.ensures.reads
+
+pub returns-in_err-taken-clause-kept : goal.returns-in_err-taken-clause-kept
+returns-in_err-taken-clause-kept g c = IfOk-from_err _ _ c.from_residual-in_err-taken.ensures.0
+
+pub returns-in_err-taken-clause-reads : goal.returns-in_err-taken-clause-reads
+returns-in_err-taken-clause-reads g c = c.read_file.ensures.reads
+
+pub returns-in_err-circuit-clause-kept : goal.returns-in_err-circuit-clause-kept
+returns-in_err-circuit-clause-kept g c = IfOk-from_err _ _ c.from_residual-in_err-circuit.ensures.0
+
+pub returns-in_err-circuit-clause-reads : goal.returns-in_err-circuit-clause-reads
+returns-in_err-circuit-clause-reads g c = c.read_file.ensures.reads
+
+pub returns-in_err-push-clause-kept : goal.returns-in_err-push-clause-kept
+returns-in_err-push-clause-kept g c = IfOk-from_err _ _ c.from_residual-in_err-push.ensures.0
+
+pub returns-in_err-push-clause-reads : goal.returns-in_err-push-clause-reads
+returns-in_err-push-clause-reads g c = c.read_file.ensures.reads
+
+pub returns-in_err-push-2-clause-kept : goal.returns-in_err-push-2-clause-kept
+returns-in_err-push-2-clause-kept g c = IfOk-from_err _ _ c.from_residual-in_err-push-2.ensures.0
+
+pub returns-in_err-push-2-clause-reads : goal.returns-in_err-push-2-clause-reads
+returns-in_err-push-2-clause-reads g c = c.read_file.ensures.reads
+
+pub returns-clause-reads : goal.returns-clause-reads
+returns-clause-reads g c = c.read_file.ensures.reads
+
+pub count_in-requires-clause-taken : goal.count_in-requires-clause-taken
+count_in-requires-clause-taken g c = c.requires.taken

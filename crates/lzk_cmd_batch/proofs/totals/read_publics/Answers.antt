@@ -1,3 +1,4 @@
+use Rattle.std.proofs.lemmas.Result.{IfOk-from_err}
 use Rattle.std.proofs.Common.{◌∙◌}
 use Rattle.lzk_cmd_files.specs.Decoded.{number_files}
 use Rattle.lzk_cmd_files.specs.Seen.{seen}
@@ -10,3 +11,30 @@ pub returns-in_err-elements-clause-gives : goal.returns-in_err-elements-clause-g
 returns-in_err-elements-clause-gives g c =
     refused (number_files g.F.Field.coding.size g.F.Field.coding.number c.args.count) items_with c.args.name.now (seen g.S.Shelf c.args.shelf.now) (seen g.S.Shelf c.read_file.new.shelf) c.args.taken _ items_of c.in_ok-text.text.items c.deref.result.now c.len.result c.in_ok-taken.taken
     c.in_err-elements.field-0.0 c.deref.ensures.value (c.len.ensures ∙ c.in_ok-text.text.ok.0) c.in_ok-text.ensures.gives c.in_ok-taken.ensures c.in_err-elements.ensures.decodes c.from_residual-in_err-elements.ensures.1
+
+pub returns-in_err-text-clause-count : goal.returns-in_err-text-clause-count
+returns-in_err-text-clause-count g c = IfOk-from_err _ _ c.from_residual.ensures.0
+
+pub returns-in_err-text-clause-reads : goal.returns-in_err-text-clause-reads
+returns-in_err-text-clause-reads g c = c.read_file.ensures.reads
+
+pub returns-in_err-taken-clause-count : goal.returns-in_err-taken-clause-count
+returns-in_err-taken-clause-count g c = IfOk-from_err _ _ c.from_residual-in_err-taken.ensures.0
+
+pub returns-in_err-taken-clause-reads : goal.returns-in_err-taken-clause-reads
+returns-in_err-taken-clause-reads g c = c.read_file.ensures.reads
+
+pub returns-in_err-elements-clause-count : goal.returns-in_err-elements-clause-count
+returns-in_err-elements-clause-count g c = IfOk-from_err _ _ c.from_residual-in_err-elements.ensures.0
+
+pub returns-in_err-elements-clause-reads : goal.returns-in_err-elements-clause-reads
+returns-in_err-elements-clause-reads g c = c.read_file.ensures.reads
+
+pub returns-clause-reads : goal.returns-clause-reads
+returns-clause-reads g c = c.read_file.ensures.reads
+
+pub returns-clause-count : goal.returns-clause-count
+returns-clause-count g c = c.in_ok-elements.ensures.count
+
+pub count_in-requires-clause-taken : goal.count_in-requires-clause-taken
+count_in-requires-clause-taken g c = c.requires.taken

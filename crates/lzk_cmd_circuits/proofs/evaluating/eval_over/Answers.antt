@@ -6,6 +6,7 @@ use Rattle.lzk_cmd_files.specs.Seen.{seen}
 use Rattle.lzk_cmd_circuits.specs.CircuitSteps.{Evaluates}
 use Rattle.lzk_cmd_circuits.proofs.Evals.{WithInputs, evaluates}
 use Rattle.lzk_cmd_files.proofs.Inputs.{no_publics, no_privates, with_inputs}
+use Rattle.lzk_cmd_files.proofs.Sights.{reads_then}
 use Rattle.lzk_cmd_circuits.proofs.evaluating.eval_over.Goals as goal
 
 pub returns-in_err-publics-clause-walks : goal.returns-in_err-publics-clause-walks
@@ -37,3 +38,12 @@ returns-clause-walks g c =
     with_inputs g.F.Field.coding.size g.F.Field.coding.number circuit.publics circuit.privates c.args.public_file.now c.args.private_file.now (WithInputs o g.F.Field.coding.number circuit) ⊥ (seen g.S.Shelf c.args.shelf.now) (seen g.S.Shelf c.read_elements.new.shelf) end end c.publics.result c.privates.result c.publics.ensures c.privates.ensures
     publics privates c.evaluate.result c.in_ok-publics.ensures.reads c.in_ok-publics.ensures.gives c.in_ok-privates.ensures.reads c.in_ok-privates.ensures.gives
     (evaluates o g.F.Field.coding.number circuit publics.items privates.items end c.evaluate.result both)
+
+pub returns-in_err-publics-clause-reads : goal.returns-in_err-publics-clause-reads
+returns-in_err-publics-clause-reads g c = c.read_elements.ensures.reads
+
+pub returns-in_err-privates-clause-reads : goal.returns-in_err-privates-clause-reads
+returns-in_err-privates-clause-reads g c = reads_then (seen g.S.Shelf c.args.shelf.now) (seen g.S.Shelf c.read_elements.new.shelf) (seen g.S.Shelf c.read_elements-2.new.shelf) c.read_elements.ensures.reads c.read_elements-2.ensures.reads
+
+pub returns-clause-reads : goal.returns-clause-reads
+returns-clause-reads g c = reads_then (seen g.S.Shelf c.args.shelf.now) (seen g.S.Shelf c.read_elements.new.shelf) (seen g.S.Shelf c.read_elements-2.new.shelf) c.read_elements.ensures.reads c.read_elements-2.ensures.reads

@@ -7,6 +7,7 @@ use Rattle.lzk_cmd_files.specs.Walks.{EndsAtPut, WalksToPut}
 use Rattle.lzk_cmd_files.specs.declared.ending.Halt.TheVariants as halts
 use Rattle.lzk_cmd_files.proofs.Steps.{handed_on}
 use Rattle.lzk_cmd_circuits.proofs.ShaFiles.{ends_at_put, no_memory, puts_sha}
+use Rattle.lzk_cmd_files.proofs.Sights.{no_step, only_moves}
 use Rattle.lzk_cmd_circuits.proofs.sha_circuits.shacircuit.Goals as goal
 
 pub returns-in_err-bytes-clause-walks : goal.returns-in_err-bytes-clause-walks
@@ -25,3 +26,9 @@ returns-in_err-bytes-clause-put g c = handed_on EndsAtPut _ halts.Memory c.from_
 
 pub returns-clause-put : goal.returns-clause-put
 returns-clause-put g c = ends_at_put c.args.circuit.now c.deref.result.now (string_bytes c.in_ok-bytes.text) (seen g.S.Shelf c.args.shelf.now) (seen g.S.Shelf c.put_file.new.shelf) c.put_file.result c.put_file.ensures.puts
+
+pub returns-in_err-bytes-clause-moves : goal.returns-in_err-bytes-clause-moves
+returns-in_err-bytes-clause-moves g c = only_moves (seen g.S.Shelf c.args.shelf.now) (seen g.S.Shelf c.args.shelf.now) (no_step (seen g.S.Shelf c.args.shelf.now))
+
+pub returns-clause-moves : goal.returns-clause-moves
+returns-clause-moves g c = c.put_file.ensures.moves

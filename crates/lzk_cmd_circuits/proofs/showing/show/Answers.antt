@@ -26,3 +26,12 @@ returns-clause-walks g c =
     let end = seen g.S.Shelf c.read_held.new.shelf in
     then circuit_files (λ (held : Held). held.circuit) c.args.circuit.now 0 next ⊥ (seen g.S.Shelf c.args.shelf.now) end end c.in_ok-held.held (Ok c.in_ok-ending_of.field-0) c.in_ok-held.ensures.reads c.in_ok-held.ensures.gives
     (here (λ files stop end. next files stop end c.in_ok-held.held.circuit) 1 ⊥ end end (says 0 (shown_any c.in_ok-held.held.circuit)) c.in_ok-ending_of.field-0 (no_step end) (record { put = refl; present = refl; cause = inl (omega arith) }) c.in_ok-ending_of.ensures (λ f at. refl))
+
+pub returns-in_err-held-clause-reads : goal.returns-in_err-held-clause-reads
+returns-in_err-held-clause-reads g c = c.read_held.ensures.reads
+
+pub returns-in_err-ending_of-clause-reads : goal.returns-in_err-ending_of-clause-reads
+returns-in_err-ending_of-clause-reads g c = c.read_held.ensures.reads
+
+pub returns-clause-reads : goal.returns-clause-reads
+returns-clause-reads g c = c.read_held.ensures.reads

@@ -7,6 +7,7 @@ use Rattle.lzk_cmd_files.specs.Seen.{seen}
 use Rattle.lzk_cmd_files.proofs.Laws as laws
 use Rattle.lzk_cmd_files.proofs.Steps.{ends, then}
 use Rattle.lzk_cmd_circuits.specs.Upgraded.{PutsUpgraded, UpgradeRun}
+use Rattle.lzk_cmd_files.proofs.Sights.{only_moves, moves_then}
 use Rattle.lzk_cmd_circuits.proofs.upgrading.upgrade.Goals as goal
 
 -- the walk that has the circuit
@@ -22,3 +23,9 @@ pub returns-clause-walks : goal.returns-clause-walks
 unfolding UpgradeRun
 returns-clause-walks g c =
     then circuit_files (λ x. x) c.args.old.now 0 (next c.args.new.now) (Unit {0}) (seen g.S.Shelf c.args.shelf.now) (seen g.S.Shelf c.read_circuit.new.shelf) (seen g.S.Shelf c.upgrade_circuit.new.shelf) c.in_ok-circuit.circuit c.upgrade_circuit.result c.in_ok-circuit.ensures.reads c.in_ok-circuit.ensures.gives c.upgrade_circuit.ensures.walks
+
+pub returns-in_err-circuit-clause-moves : goal.returns-in_err-circuit-clause-moves
+returns-in_err-circuit-clause-moves g c = only_moves (seen g.S.Shelf c.args.shelf.now) (seen g.S.Shelf c.read_circuit.new.shelf) c.read_circuit.ensures.reads
+
+pub returns-clause-moves : goal.returns-clause-moves
+returns-clause-moves g c = moves_then (seen g.S.Shelf c.args.shelf.now) (seen g.S.Shelf c.read_circuit.new.shelf) (seen g.S.Shelf c.upgrade_circuit.new.shelf) c.read_circuit.ensures.reads c.upgrade_circuit.ensures.moves

@@ -1,10 +1,32 @@
-use Rattle.std.proofs.Common.{◌≡◌, false, length, Ok, sym, subst, ◌∙◌}
+use Rattle.std.proofs.Common.{◌≡◌, true, false, length, Ok, sym, subst, ◌∙◌}
 use Rattle.lzk_circbytes.specs.declared.any.AnyCircuit.{AnyCircuit}
 use Rattle.lzk_cmd_prove.specs.Hashed.{HashAny, is_for}
 use Rattle.lzk_cmd_files.specs.Seen.{seen}
 use Rattle.lzk_cmd_files.specs.Walks.{WalksToPut}
-use Rattle.lzk_cmd_prove.proofs.Hashes.{refuses_counts, refuses_field}
+use Rattle.lzk_cmd_circuits.proofs.ShaFiles.{no_memory}
+use Rattle.lzk_cmd_prove.proofs.Hashes.{proves_hash, refuses_counts, refuses_field}
 use Rattle.lzk_cmd_prove.proofs.hashing.hash_any.Goals as goal
+
+pub returns-then-is_for-clause-walks : goal.returns-then-is_for-clause-walks
+returns-then-is_for-clause-walks g c =
+    let name = c.args.name.now in
+    let message = c.args.message.now in
+    let task = c.args.task.now in
+    let old = seen g.S.Shelf c.args.shelf.now in
+    let new = seen g.S.Shelf c.prove_hash.new.shelf in
+    let fits : is_for (length message) c.in-Gold.c ≡ true = sym c.is_for.ensures ∙ c.if-is_for.true in
+    subst (λ (any : AnyCircuit). WalksToPut (λ files. HashAny name any message task.proof.now task.session.now task.seed) 1 old new c.prove_hash.result) (sym c.in-Gold.is)
+    (proves_hash name message task.proof.now task.session.now task.seed c.in-Gold.c old new c.prove_hash.result fits c.prove_hash.ensures.walks)
+
+pub returns-in_err-unfit-in-Gold-clause-walks : goal.returns-in_err-unfit-in-Gold-clause-walks
+returns-in_err-unfit-in-Gold-clause-walks g c =
+    let task = c.args.task.now in
+    no_memory (λ files. HashAny c.args.name.now c.args.circuit.now c.args.message.now task.proof.now task.session.now task.seed) 1 (seen g.S.Shelf c.args.shelf.now) _ c.from_residual.ensures.1
+
+pub returns-in_err-unfit-in-Gf-clause-walks : goal.returns-in_err-unfit-in-Gf-clause-walks
+returns-in_err-unfit-in-Gf-clause-walks g c =
+    let task = c.args.task.now in
+    no_memory (λ files. HashAny c.args.name.now c.args.circuit.now c.args.message.now task.proof.now task.session.now task.seed) 1 (seen g.S.Shelf c.args.shelf.now) _ c.from_residual-in_err-unfit-in-Gf.ensures.1
 
 pub returns-in_ok-unfit-in-Gold-clause-walks : goal.returns-in_ok-unfit-in-Gold-clause-walks
 returns-in_ok-unfit-in-Gold-clause-walks g c =

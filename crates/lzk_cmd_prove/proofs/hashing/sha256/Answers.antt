@@ -11,11 +11,22 @@ use Rattle.lzk_cmd_files.specs.Walks.{WalksToPut}
 use Rattle.lzk_cmd_files.specs.declared.circuits.Held.{Held}
 use Rattle.lzk_cmd_files.proofs.Laws as laws
 use Rattle.lzk_cmd_files.proofs.Steps.{ends, then}
+use Rattle.lzk_cmd_circuits.proofs.ShaFiles.{no_memory}
 use Rattle.lzk_cmd_prove.proofs.hashing.sha256.Goals as goal
 
 -- the walk that has the circuit
 abbrev next : List ℕ → List ℕ → List ℕ → List ℕ → List ℕ → Files → Stop → End → AnyCircuit → Type 0
 next circuit message proof session seed files stop end c = HashAny circuit c message proof session seed stop end
+
+pub returns-in_err-session-clause-walks : goal.returns-in_err-session-clause-walks
+returns-in_err-session-clause-walks g c =
+    let order = c.args.order.now in
+    no_memory (HashRun order.circuit.now order.proof.now order.message.now order.seed.now (option_copied order.session)) 0 (seen g.S.Shelf c.args.shelf.now) _ c.from_residual.ensures.1
+
+pub returns-in_err-message-clause-walks : goal.returns-in_err-message-clause-walks
+returns-in_err-message-clause-walks g c =
+    let order = c.args.order.now in
+    no_memory (HashRun order.circuit.now order.proof.now order.message.now order.seed.now (option_copied order.session)) 0 (seen g.S.Shelf c.args.shelf.now) _ c.from_residual-in_err-message.ensures.1
 
 pub returns-in_err-held-clause-walks : goal.returns-in_err-held-clause-walks
 unfolding HashRun

@@ -11,11 +11,17 @@ use Rattle.lzk_cmd_files.specs.Walks.{WalksToPut}
 use Rattle.lzk_cmd_files.specs.declared.circuits.Held.{Held}
 use Rattle.lzk_cmd_files.proofs.Laws as laws
 use Rattle.lzk_cmd_files.proofs.Steps.{ends, then}
+use Rattle.lzk_cmd_circuits.proofs.ShaFiles.{no_memory}
 use Rattle.lzk_cmd_prove.proofs.proving.prove.Goals as goal
 
 -- the walk that has the circuit
 abbrev next : List ℕ → List ℕ → List ℕ → List ℕ → List ℕ → Files → Stop → End → AnyCircuit → Type 0
 next public private proof session seed files stop end c = ProveAny c public private proof session seed files stop end
+
+pub returns-in_err-session-clause-walks : goal.returns-in_err-session-clause-walks
+returns-in_err-session-clause-walks g c =
+    let order = c.args.order.now in
+    no_memory (ProveRun order.circuit.now order.public.now order.private.now order.proof.now order.seed.now (option_copied order.session)) 0 (seen g.S.Shelf c.args.shelf.now) _ c.from_residual.ensures.1
 
 pub returns-in_err-held-clause-walks : goal.returns-in_err-held-clause-walks
 unfolding ProveRun

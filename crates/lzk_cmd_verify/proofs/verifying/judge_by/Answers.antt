@@ -32,3 +32,12 @@ returns-in_err-ending_of-clause-walks g c =
     let new = seen g.S.Shelf c.feed_proof.new.shelf in
     handed_on (Walks (JudgesFile f.ops e c.args.desk.now.circuit c.args.session.now c.args.publics.now c.args.proof.now) 2 old new) _ halts.Memory c.from_residual-in_err-ending_of.ensures.1
     (where_told old.files _ (λ files at. c.in_ok-feed_proof.ensures.reads.files ∙ at))
+
+pub returns-in_err-feed_proof-clause-reads : goal.returns-in_err-feed_proof-clause-reads
+returns-in_err-feed_proof-clause-reads g c = c.feed_proof.ensures.reads
+
+pub returns-in_err-ending_of-clause-reads : goal.returns-in_err-ending_of-clause-reads
+returns-in_err-ending_of-clause-reads g c = c.feed_proof.ensures.reads
+
+pub returns-clause-reads : goal.returns-clause-reads
+returns-clause-reads g c = c.feed_proof.ensures.reads

@@ -11,6 +11,7 @@ use Rattle.lzk_cmd_files.specs.Walks.{Walks}
 use Rattle.lzk_cmd_files.specs.declared.circuits.Held.{Held}
 use Rattle.lzk_cmd_files.proofs.Laws as laws
 use Rattle.lzk_cmd_files.proofs.Steps.{ends, then}
+use Rattle.lzk_cmd_files.proofs.Sights.{no_step, reads_then}
 use Rattle.lzk_cmd_verify.proofs.verifying.verify.Goals as goal
 
 -- the walk that has the circuit
@@ -32,3 +33,12 @@ returns-clause-walks g c =
     then circuit_files (λ (held : Held). held.circuit) c.args.circuit.now 0 (next c.args.public_file.now c.args.proof.now (session_of (option_copied c.args.session))) ⊥ (seen g.S.Shelf c.args.shelf.now) mid end c.in_ok-held.held c.verify_any.result
     c.in_ok-held.ensures.reads c.in_ok-held.ensures.gives
     (subst (λ s. Walks (VerifyAny c.in_ok-held.held.circuit c.args.public_file.now c.args.proof.now s) 1 mid end c.verify_any.result) session c.verify_any.ensures.walks)
+
+pub returns-in_err-session-clause-reads : goal.returns-in_err-session-clause-reads
+returns-in_err-session-clause-reads g c = no_step (seen g.S.Shelf c.args.shelf.now)
+
+pub returns-in_err-held-clause-reads : goal.returns-in_err-held-clause-reads
+returns-in_err-held-clause-reads g c = c.read_held.ensures.reads
+
+pub returns-clause-reads : goal.returns-clause-reads
+returns-clause-reads g c = reads_then (seen g.S.Shelf c.args.shelf.now) (seen g.S.Shelf c.read_held.new.shelf) (seen g.S.Shelf c.verify_any.new.shelf) c.read_held.ensures.reads c.verify_any.ensures.reads

@@ -3,6 +3,7 @@ use Rattle.lzk_cmd_verify.specs.Feeding.{JudgesFile}
 use Rattle.lzk_cmd_files.specs.Seen.{seen}
 use Rattle.lzk_cmd_files.specs.Walks.{Walks}
 use Rattle.lzk_cmd_verify.proofs.Verifies.{no_publics, with_publics}
+use Rattle.lzk_cmd_files.proofs.Sights.{reads_then}
 use Rattle.lzk_cmd_verify.proofs.verifying.verify_over.Goals as goal
 
 pub returns-in_err-publics-clause-walks : goal.returns-in_err-publics-clause-walks
@@ -21,3 +22,9 @@ returns-clause-walks g c =
     with_publics o e c.args.circuit.now c.args.public_file.now c.args.proof.now c.args.session.now (seen g.S.Shelf c.args.shelf.now) mid end c.publics.result c.in_ok-publics.publics c.judge_file.result
     c.publics.ensures c.in_ok-publics.ensures.reads c.in_ok-publics.ensures.gives
     (subst (λ (xs : List _). Walks (JudgesFile o e c.args.circuit.now c.args.session.now xs c.args.proof.now) 2 mid end c.judge_file.result) c.deref.ensures.value c.judge_file.ensures.walks)
+
+pub returns-in_err-publics-clause-reads : goal.returns-in_err-publics-clause-reads
+returns-in_err-publics-clause-reads g c = c.read_elements.ensures.reads
+
+pub returns-clause-reads : goal.returns-clause-reads
+returns-clause-reads g c = reads_then (seen g.S.Shelf c.args.shelf.now) (seen g.S.Shelf c.read_elements.new.shelf) (seen g.S.Shelf c.judge_file.new.shelf) c.read_elements.ensures.reads c.judge_file.ensures.reads

@@ -1,4 +1,4 @@
-use Rattle.std.proofs.Common.{◌≡◌, ◌+◌, ◌++◌, ◌∷◌, [], ◌∙◌, ℕ, List, map, sym, arith, subst}
+use Rattle.std.proofs.Common.{◌≡◌, ◌+◌, ◌∷◌, [], ◌∙◌, ℕ, List, map, sym, arith, subst}
 use Rattle.std.specs.List.{range_with_len}
 use Rattle.std.proofs.lemmas.List.FromFn.{length-map-range_with_len}
 use Rattle.lzk_goldilocks.specs.Elements.{ops, of_number}
@@ -20,9 +20,8 @@ loop-i-preserved c =
     let i = c.loop-i.i in
     let w = input_count (places_of a.given.now) in
     let f = λ (j : ℕ). or_list ops of_number ops.one (turned_entry ops of_number (places_of a.given.now) a.x.0.word a.x.1 j) (turned_entry ops of_number (places_of a.given.now) a.y.0.word a.y.1 j) in
-    let same : c.deref.result.now ≡ f i =
-    c.deref.ensures.value ∙ c.in_ok-push_or.ensures
-    ∙ (λ j. c.new-products.ensures.items j ++ or_list ops of_number (c.one.ensures j) (c.turned_entry.ensures j) (c.turned_entry-in-loop-i.ensures j)) in
+    let same : c.or_of-products.result ≡ f i =
+    c.or_of-products.ensures ∙ (λ j. or_list ops of_number (c.one.ensures j) (c.turned_entry-first.ensures j) (c.turned_entry-second.ensures j)) in
     let within : AreWithin w (f i) =
     or_within ops of_number w ops.one (turned_entry ops of_number (places_of a.given.now) a.x.0.word a.x.1 i) (turned_entry ops of_number (places_of a.given.now) a.y.0.word a.y.1 i)
     (turned_within ops of_number (places_of a.given.now) a.given.now.placed a.x.0.word a.x.1 i a.x.0.there) (turned_within ops of_number (places_of a.given.now) a.given.now.placed a.y.0.word a.y.1 i a.y.0.there) in

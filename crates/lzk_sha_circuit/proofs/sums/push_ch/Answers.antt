@@ -1,4 +1,5 @@
 use Rattle.std.proofs.Common.{◌≡◌, ◌^◌, ◌++◌, ◌∙◌, ℕ, ap, arith}
+use Rattle.std.proofs.Math.Nat.{zero-add}
 use Rattle.std.specs.List.{range_with_len, flat_map}
 use Rattle.lzk_goldilocks.specs.Elements.{ops, of_number}
 use Rattle.lzk_sha_circuit.specs.Found.{places_of}
@@ -10,8 +11,8 @@ use Rattle.lzk_sha_circuit.proofs.sums.push_ch.Goals as goal
 pub loop-i-preserved : goal.loop-i-preserved
 loop-i-preserved c =
     let a = c.args in
-    chunk_more (λ (i : ℕ). chosen_list ops (of_number (2 ^ i)) (word_entry ops of_number (places_of a.given.now) a.e.word i) (word_entry ops of_number (places_of a.given.now) a.f.word i) (word_entry ops of_number (places_of a.given.now) a.g.word i)) a.products.now.items c.loop-i.products.items c.push_chosen.new.products.items (chosen_list ops c.power.result c.entry-e.result c.entry-f.result c.entry-g.result) 0 c.loop-i.i c.loop-i.i c.loop-i.invariant c.in_ok-push_chosen.ensures
-    (λ j. chosen_list ops (c.power.ensures j) (c.entry-e.ensures j) (c.entry-f.ensures j) (c.entry-g.ensures j)) (omega arith)
+    chunk_more (λ (i : ℕ). chosen_list ops (of_number (2 ^ i)) (word_entry ops of_number (places_of a.given.now) a.e.word i) (word_entry ops of_number (places_of a.given.now) a.f.word i) (word_entry ops of_number (places_of a.given.now) a.g.word i)) a.products.now.items c.loop-i.products.items c.extend_from_slice.new.self.items c.chosen_of.result 0 c.loop-i.i c.loop-i.i c.loop-i.invariant c.in_ok-extend_from_slice.ensures.items
+    (c.chosen_of.ensures ∙ (λ j. chosen_list ops (c.power.ensures j) (c.entry-e.ensures j) (c.entry-f.ensures j) (c.entry-g.ensures j))) (zero-add c.loop-i.i)
 
 pub returns : goal.returns
 unfolding ch_word_list

@@ -3,7 +3,7 @@ use Rattle.std.specs.List.{range_with_len, flat_map}
 use Rattle.lzk_goldilocks.specs.Elements.{ops, of_number}
 use Rattle.lzk_sha_circuit.specs.Found.{places_of}
 use Rattle.lzk_sha_circuit.specs.Layers.{Grows, inner_count, bit_row, w_row, a_row, e_row, f_row, digest_row}
-use Rattle.lzk_sha_circuit.proofs.outer.output_terms.Given as goal
+use Rattle.lzk_sha_circuit.proofs.outer.push_outputs.Given as goal
 
 abbrev pub invariant-loop-j : goal.invariant-loop-j
 invariant-loop-j l = Grows ops (inner_count (places_of l.given)) 0 l.initial.terms.items (map (bit_row ops) (range_with_len 0 l.j)) l.terms.items
