@@ -1,5 +1,5 @@
 -- What stands behind the counts, as it is read.
-use Rattle.std.proofs.Common.{◌≡◌, ℕ, zero, suc, ◌+◌, ◌*◌, ◌<◌, ◌≤◌, cond, Bool, true, false, eqb, ◌||◌, List, [], ◌∷◌, ◌++◌, length, get_or, map, reverse, Ok, refl, sym, ap, subst, ◌∙◌, arith, length-append, take, drop, Fits, w8}
+use Rattle.std.proofs.Common.{◌≡◌, ℕ, zero, suc, ◌+◌, ◌*◌, ◌<◌, ◌≤◌, cond, Bool, true, false, eqb, ◌||◌, List, [], ◌∷◌, ◌++◌, Option, None, Some, Result, length, get_or, map, reverse, Ok, refl, sym, ap, subst, ◌∙◌, arith, length-append, take, drop, Fits, w8}
 use Rattle.std.specs.Prelude.{replicate, slice_index}
 use Rattle.std.specs.List.Sorted.{IsStrictlyIncreasing}
 use Rattle.std.proofs.lemmas.List.{get_or-replicate, length-drop, nil_from_length, take_all, append-nil}
@@ -12,9 +12,9 @@ use Rattle.lzk_circbytes.specs.declared.fault.ByteKind.TheVariants.{Trailing}
 use Rattle.lzk_circbytes.specs.declared.fault.ReadError.{ReadError}
 use Rattle.lzk_circbytes.specs.declared.fault.ReadError.TheVariants as errors
 use Rattle.lzk_circbytes.specs.Numbered.{Shape, numbered_layer, numbered, is_coefficient, coefs_of, zeros_of}
-use Rattle.lzk_circbytes.specs.Reading.{stops, as_last, constants_at, layers_at, unused_from, all_used, limited_at, body_at, wiring_at}
+use Rattle.lzk_circbytes.specs.Reading.{Stop, ◌>>=◌, must, as_last, constants_at, layers_at, unused_from, all_used, limited_at, body_at, wiring_at}
 use Rattle.lzk_circbytes.specs.Spelling.{spells, constants_bytes}
-use Rattle.lzk_circbytes.specs.Answers.{Fails, Marks, unmarked_from}
+use Rattle.lzk_circbytes.specs.Answers.{Fails, Marks, unmarked_from, end_at}
 use Rattle.lzk_circbytes.proofs.Steps.{IsBytes}
 use Rattle.lzk_circbytes.proofs.Fields.{constants_take}
 use Rattle.lzk_circbytes.proofs.Ascending.{Above, increasing-from_Above}
@@ -71,18 +71,20 @@ flags_are shape version layers cs old new bytes = go (eqb version 2)
     go false none len marks = flags_all shape layers cs old new bytes none len marks
 
 module _ (shape : Shape) (version inputs depth count : ℕ) (bytes cs r1 r2 : List ℕ) (layers : List (Layer ℕ)) (at_cs : constants_at shape count bytes ≡ Ok (cs, r1)) (at_layers : layers_at (coefs_of version cs) inputs depth r1 ≡ Ok (layers, r2)) where
-  pub body_unused : (e : ReadError) → Fails e (all_used (unused_from shape.bytes layers cs bytes)) → Fails e (body_at shape version inputs depth count bytes)
+  body_is : body_at shape version inputs depth count bytes ≡ (end_at (unused_from shape.bytes layers cs bytes) r2 >>= λ _. Ok layers)
   unfolding body_at
-  body_unused errors.OutOfMemory h = tt
-  body_unused (errors.Stops left kind) h = rw (at_cs, at_layers, h) refl
+  body_is = rw (at_cs, at_layers) (go (unused_from shape.bytes layers cs bytes) (must (eqb (length r2) 0) Trailing r2))
+    where
+      go : (unused : Option (List ℕ)) (last : Result (Unit {0}) Stop) → ◌≡◌ {A = Result (List (Layer ℕ)) Stop} (all_used unused >>= λ _. last >>= λ _. Ok layers) ((all_used unused >>= λ _. last) >>= λ _. Ok layers)
+      go None last = refl
+      go (Some left) last = refl
 
-  pub body_left : all_used (unused_from shape.bytes layers cs bytes) ≡ Ok tt → eqb (length r2) 0 ≡ false → body_at shape version inputs depth count bytes ≡ stops Trailing r2
-  unfolding body_at
-  body_left h some = rw (at_cs, at_layers, h, some) refl
+  pub body_fails : (e : ReadError) → Fails e (end_at (unused_from shape.bytes layers cs bytes) r2) → Fails e (body_at shape version inputs depth count bytes)
+  body_fails errors.OutOfMemory h = tt
+  body_fails (errors.Stops left kind) h = body_is ∙ ap (λ (r : Result (Unit {0}) Stop). r >>= λ _. Ok layers) h
 
-  pub body_whole : all_used (unused_from shape.bytes layers cs bytes) ≡ Ok tt → eqb (length r2) 0 ≡ true → body_at shape version inputs depth count bytes ≡ Ok layers
-  unfolding body_at
-  body_whole h all = rw (at_cs, at_layers, h, all) refl
+  pub body_whole : end_at (unused_from shape.bytes layers cs bytes) r2 ≡ Ok tt → body_at shape version inputs depth count bytes ≡ Ok layers
+  body_whole h = body_is ∙ ap (λ (r : Result (Unit {0}) Stop). r >>= λ _. Ok layers) h
 
 pub bytes_fit : (bytes : List ℕ) → ((i : ℕ) → Fits w8 (get_or bytes i 0)) → IsBytes bytes
 bytes_fit bytes h i = omega (arith, h i)
@@ -97,12 +99,12 @@ lent_back n new old same all =
 pub flags_read : (shape : Shape) (version : ℕ) (layers : List (Layer ℕ)) (cs given : List ℕ) (old before new after : List Bool) (width : ℕ) (bytes : List ℕ) → given ≡ coefs_of version cs → before ≡ old
     → after ≡ drop (zeros_of version) new → width ≡ shape.bytes
     → old ≡ replicate (length (coefs_of version cs)) false → length new ≡ length (coefs_of version cs) → Marks given (is_coefficient layers) before new
-    → all_used (unmarked_from width after bytes) ≡ all_used (unused_from shape.bytes layers cs bytes)
+    → unmarked_from width after bytes ≡ unused_from shape.bytes layers cs bytes
 flags_read shape version layers cs given old before new after width bytes e1 e2 e3 e4 none len marks =
     let one : Marks (coefs_of version cs) (is_coefficient layers) before new = subst (λ (ns : List ℕ). Marks ns (is_coefficient layers) before new) e1 marks in
     let two : Marks (coefs_of version cs) (is_coefficient layers) old new = subst (λ (us : List Bool). Marks (coefs_of version cs) (is_coefficient layers) us new) e2 one in
-    ap (λ (us : List Bool). all_used (unmarked_from width us bytes)) e3 ∙ ap (λ (n : ℕ). all_used (unmarked_from n (drop (zeros_of version) new) bytes)) e4
-    ∙ ap all_used (flags_are shape version layers cs old new bytes none len two)
+    ap (λ (us : List Bool). unmarked_from width us bytes) e3 ∙ ap (λ (n : ℕ). unmarked_from n (drop (zeros_of version) new) bytes) e4
+    ∙ flags_are shape version layers cs old new bytes none len two
 
 -- zero stands before constants, which are above it
 pub coefs_rise : (version : ℕ) (cs : List ℕ) → Above 0 cs → IsStrictlyIncreasing (coefs_of version cs)
@@ -125,6 +127,17 @@ coefs_behind version cs = go (eqb version 2)
     go : (b : Bool) → drop (cond b 1 0) (cond b (0 ∷ cs) cs) ≡ cs
     go true = refl
     go false = refl
+
+-- an item pushed behind
+pub coefs_push : (version : ℕ) (cs : List ℕ) (c : ℕ) → cs ≡ coefs_of version (drop (zeros_of version) cs)
+    → (drop (zeros_of version) (cs ++ c ∷ []) ≡ drop (zeros_of version) cs ++ c ∷ []) × (cs ++ c ∷ [] ≡ coefs_of version (drop (zeros_of version) (cs ++ c ∷ [])))
+coefs_push version cs c = go (eqb version 2) cs
+  where
+    go : (b : Bool) (xs : List ℕ) → xs ≡ cond b (0 ∷ drop (cond b 1 0) xs) (drop (cond b 1 0) xs)
+        → (drop (cond b 1 0) (xs ++ c ∷ []) ≡ drop (cond b 1 0) xs ++ c ∷ []) × (xs ++ c ∷ [] ≡ cond b (0 ∷ drop (cond b 1 0) (xs ++ c ∷ [])) (drop (cond b 1 0) (xs ++ c ∷ [])))
+    go false xs h = (refl, refl)
+    go true [] h = absurd (omega (arith, ap length h))
+    go true (x ∷ xs) h = (refl, ap (λ (ys : List ℕ). ys ++ c ∷ []) h)
 
 pub length-behind : (version : ℕ) (cs : List ℕ) (flags : List Bool) → length flags ≡ length (coefs_of version cs) → length (drop (zeros_of version) flags) ≡ length cs
 length-behind version cs flags = go (eqb version 2)

@@ -1,17 +1,18 @@
 -- What the calls of this crate answer.
-use Rattle.std.specs.Prelude.{◌≡◌, ℕ, ◌<◌, ◌||◌, Bool, false, List, [], ◌∷◌, length, drop, Option, Some, None, Result, Ok, Err, slice_index, slice_index_or, if◌then◌else◌}
+use Rattle.std.specs.Prelude.{◌≡◌, ℕ, ◌<◌, ◌==◌, ◌||◌, Bool, false, List, [], ◌∷◌, length, drop, Option, Some, None, Result, Ok, Err, slice_index, slice_index_or, if◌then◌else◌}
 use Rattle.lzk_goldilocks.specs.Prime.{field_byte}
 use Rattle.lzk_circuit.specs.Valid.{Under, Wiring, IsValid}
 use Rattle.lzk_goldilocks.specs.Elements as gold
 use Rattle.lzk_gf128.specs.Elements as gf
 use Rattle.lzk_circbytes.specs.declared.any.AnyCircuit.{AnyCircuit}
 use Rattle.lzk_circbytes.specs.declared.any.AnyCircuit.TheVariants.{Gold, Gf}
+use Rattle.lzk_circbytes.specs.declared.fault.ByteKind.TheVariants.{Trailing}
 use Rattle.lzk_circbytes.specs.declared.fault.DecodeError.{DecodeError}
 use Rattle.lzk_circbytes.specs.declared.fault.DecodeError.TheVariants as refused
 use Rattle.lzk_circbytes.specs.declared.fault.ReadError.{ReadError}
 use Rattle.lzk_circbytes.specs.declared.fault.ReadError.TheVariants as errors
 use Rattle.lzk_circbytes.specs.Numbered.{numbered}
-use Rattle.lzk_circbytes.specs.Reading.{Stop}
+use Rattle.lzk_circbytes.specs.Reading.{Stop, ◌>>=◌, must, all_used}
 use Rattle.lzk_circbytes.specs.Files.{CircuitBytes, CircuitFaultAt}
 
 -- the first fault of the bytes, which are no circuit's; or memory ran out
@@ -55,6 +56,12 @@ Marks numbers test old new =
 abbrev pub unmarked_from : ℕ → List Bool → List ℕ → Option (List ℕ)
 unmarked_from width [] bytes = None
 unmarked_from width (u ∷ us) bytes = if u then unmarked_from width us (drop width bytes) else Some bytes
+
+-- the checks behind the last layer: that no number's flag is unset, and that no byte is left
+abbrev pub end_at : Option (List ℕ) → List ℕ → Result (Unit {0}) Stop
+end_at unmarked rest = do
+  _ ← all_used unmarked
+  must (length rest == 0) Trailing rest
 
 abbrev pub under : ℕ → ℕ → ℕ → Under
 under width wires terms = record { width = width; wires = wires; terms = terms }

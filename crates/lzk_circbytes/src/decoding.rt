@@ -10,9 +10,7 @@ ghost use Rattle.lzk_circuit.specs.Limits.{most_total};
 
 use crate::any::AnyCircuit;
 use crate::fault::{ByteFault, ByteKind, DecodeError, ReadError};
-use crate::reading::{
-    Coefs, check_used, coefs_of, constants_of, constants_part, layers_of, limited_of, stop,
-};
+use crate::reading::{Coefs, check_end, coefs_of, constants_part, layers_of, limited_of, stop};
 use lzk_circuit::{Circuit, Layer, MOST_IN_ALL, MOST_LAYERS, MOST_PRIVATES, MOST_PUBLICS};
 use lzk_field::Field;
 use lzk_gf128::Gf128;
@@ -34,15 +32,11 @@ fn body_of<F: Field>(
     ensures { Gives (λ layers. map (numbered_layer F.coding.number) layers.items) result
         (body_at (shape F.coding.id F.coding.bytes F.coding.size) version inputs depth count bytes.now) }
 {
-    let (constants, rest) = constants_of::<F>(alloc, count, bytes)?;
-    let coefs = coefs_of(alloc, version, constants)?;
+    let (coefs, rest) = coefs_of::<F>(alloc, version, count, bytes)?;
     let mut used = vec![in alloc; false; coefs.len()]?;
     let among = Coefs { list: &coefs };
     let (layers, rest) = layers_of(alloc, &among, inputs, depth, &mut used, rest)?;
-    check_used(constants_part(version, &used), F::BYTES, bytes)?;
-    if !rest.is_empty() {
-        return Err(stop(ByteKind::Trailing, rest));
-    }
+    check_end(constants_part(version, &used), F::BYTES, bytes, rest)?;
     Ok(layers)
 }
 
@@ -80,15 +74,15 @@ fn any_of(alloc: Global, version: Version, bytes: &[u8]) -> Result<AnyCircuit, R
     ensures value { Gives numbers_of result (field_at version.number bytes.now) }
     ensures valid { IfOk result IsValidCircuit }
 {
-    match bytes {
-        [] => Err(stop(ByteKind::Truncated, bytes)),
-        [id, rest @ ..] if *id == Gold::ID => {
-            Ok(AnyCircuit::Gold(circuit_of::<Gold>(alloc, version, rest)?))
-        }
-        [id, rest @ ..] if *id == Gf128::ID => {
-            Ok(AnyCircuit::Gf(circuit_of::<Gf128>(alloc, version, rest)?))
-        }
-        _ => Err(stop(ByteKind::FieldId, bytes)),
+    let Some((id, rest)) = bytes.split_first() else {
+        return Err(stop(ByteKind::Truncated, bytes));
+    };
+    if *id == Gold::ID {
+        Ok(AnyCircuit::Gold(circuit_of(alloc, version, rest)?))
+    } else if *id == Gf128::ID {
+        Ok(AnyCircuit::Gf(circuit_of(alloc, version, rest)?))
+    } else {
+        Err(stop(ByteKind::FieldId, bytes))
     }
 }
 

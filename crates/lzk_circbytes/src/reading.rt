@@ -1,14 +1,14 @@
 //! Reading a circuit's parts from left to right.
 
-ghost use Rattle.std.specs.Prelude.{◌≡◌, ◌≤◌, ◌<◌, ◌^◌, ◌*◌, ◌+◌, length, map, drop, IfOk, slice_index_or};
+ghost use Rattle.std.specs.Prelude.{◌≡◌, ◌≤◌, ◌<◌, ◌^◌, ◌*◌, ◌+◌, [], length, map, drop, IfOk, slice_index_or};
 ghost use Rattle.std.specs.List.Sorted.{IsStrictlyIncreasing};
 ghost use Rattle.std.specs.Option.{option_map};
 ghost use Rattle.lzk_circuit.specs.Faults.{are_apart};
 ghost use Rattle.lzk_circbytes.specs.Numbered.{shape, coefs_of, zeros_of, numbered_term, numbered_layer, is_in_terms, is_coefficient};
 ghost use Rattle.lzk_circbytes.specs.Reading.{word_at, septets_at, varint_at, step_at, limited_at, constant_at};
 ghost use Rattle.lzk_circbytes.specs.Reading.{constants_at, stands_behind, wire_before, term_at, terms_at, layer_at};
-ghost use Rattle.lzk_circbytes.specs.Reading.{layers_at, all_used};
-ghost use Rattle.lzk_circbytes.specs.Answers.{Gives, Marks, unmarked_from, under};
+ghost use Rattle.lzk_circbytes.specs.Reading.{layers_at};
+ghost use Rattle.lzk_circbytes.specs.Answers.{Gives, Marks, unmarked_from, end_at, under};
 ghost use Rattle.lzk_circuit.specs.Limits.{most_total};
 
 use crate::fault::{ByteKind, ReadError};
@@ -140,45 +140,42 @@ fn constant_of<F: Field>(before: u128, bytes: &[u8]) -> Result<(F, &[u8]), ReadE
     }
 }
 
-/// So many constants, ascending. Room is kept for no more than the bytes can hold.
-pub(crate) fn constants_of<F: Field>(
+/// Room for so many constants, and in version 2 zero before them.
+fn zeros_before<F: Field>(alloc: Global, version: u8, room: usize) -> Result<Vec<F>, AllocError>
+    requires { room < 2 ^ 32 }
+    ensures { IfOk result (λ zeros. map F.coding.number zeros.items ≡ coefs_of version []) }
+{
+    let mut zeros = Vec::with_capacity(alloc, room + 1)?;
+    if version == 2 {
+        zeros.push_reserved(F::zero());
+    }
+    Ok(zeros)
+}
+
+/// What the last numbers of terms count among: so many constants, ascending, and in version 2 zero before them. Room is
+/// kept for no more than the bytes can hold.
+pub(crate) fn coefs_of<F: Field>(
     alloc: Global,
+    version: u8,
     count: u32,
     bytes: &[u8],
 ) -> Result<(Vec<F>, &[u8]), ReadError>
-    ensures { Gives (λ x. (map F.coding.number x.0.items, x.1.now)) result
+    ensures value { Gives (λ x. (drop (zeros_of version) (map F.coding.number x.0.items), x.1.now)) result
         (constants_at (shape F.coding.id F.coding.bytes F.coding.size) count bytes.now) }
+    ensures zero { IfOk result (λ x.
+        map F.coding.number x.0.items ≡ coefs_of version (drop (zeros_of version) (map F.coding.number x.0.items))) }
 {
     let room = (count as usize).min(bytes.len() / F::BYTES);
-    let mut constants = Vec::with_capacity(alloc, room)?;
+    let mut coefs = zeros_before(alloc, version, room)?;
     let mut before = 0;
     let mut rest = bytes;
     for _ in 0..count {
         let (c, after) = constant_of::<F>(before, rest)?;
         before = c.number();
-        constants.push(c)?;
+        coefs.push(c)?;
         rest = after;
     }
-    Ok((constants, rest))
-}
-
-/// What the last numbers of terms count among: the constants, and in version 2 zero before them.
-pub(crate) fn coefs_of<F: Field>(
-    alloc: Global,
-    version: u8,
-    constants: Vec<F>,
-) -> Result<Vec<F>, AllocError>
-    requires { length constants.items < 2 ^ 32 }
-    ensures { IfOk result
-        (λ coefs. map F.coding.number coefs.items ≡ coefs_of version (map F.coding.number constants.items)) }
-{
-    if version != 2 {
-        return Ok(constants);
-    }
-    let mut coefs = Vec::with_capacity(alloc, constants.len() + 1)?;
-    coefs.push(F::zero())?;
-    coefs.extend_from_slice(&constants)?;
-    Ok(coefs)
+    Ok((coefs, rest))
 }
 
 /// The flags of the constants, behind that of zero in version 2.
@@ -360,15 +357,23 @@ pub(crate) fn layers_of<'a, F: Field>(
     Ok((layers, rest))
 }
 
-/// That each constant is used. The bytes begin with the constants, of so many bytes each.
-pub(crate) fn check_used(used: &[bool], width: usize, bytes: &[u8]) -> Result<(), ReadError>
+/// That each constant is used, and that no byte is left. The bytes begin with the constants, of so many bytes each.
+pub(crate) fn check_end(
+    used: &[bool],
+    width: usize,
+    bytes: &[u8],
+    rest: &[u8],
+) -> Result<(), ReadError>
     requires { length used.now * width ≤ length bytes.now }
-    ensures { Gives (λ u. tt) result (all_used (unmarked_from width used.now bytes.now)) }
+    ensures { Gives (λ u. tt) result (end_at (unmarked_from width used.now bytes.now) rest.now) }
 {
     for i in 0..used.len() {
         if !used[i] {
             return Err(ReadError::Stops(bytes.len() - i * width, ByteKind::Constant));
         }
+    }
+    if !rest.is_empty() {
+        return Err(stop(ByteKind::Trailing, rest));
     }
     Ok(())
 }

@@ -108,7 +108,7 @@ fn find_nonzero<F: Field>(checks: &[F]) -> Option<(u32, F)>
 {
     for g in 0..checks.len() {
         let value = checks[g];
-        if value != F::zero() {
+        if value.number() != 0 {
             return Some((g as u32, value));
         }
     }

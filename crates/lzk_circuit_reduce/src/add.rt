@@ -80,7 +80,9 @@ fn insert_term<F: Field>(row: &mut Vec<Term<F>>, term: Term<F>) -> Result<(), Al
         add_coef(row, place, term.coef);
         return Ok(());
     }
-    row.insert(place, term)?;
+    let Ok(()) = row.insert(place, term) else {
+        return Err(AllocError);
+    };
     Ok(())
 }
 

@@ -23,7 +23,9 @@ fn attached_layer<F: Field>(
     requires few { layer.now.wires + length wires.now < 2 ^ 32 }
     ensures { IfOk result (λ all. all ≡ attached F.ops layer.now wires.now) }
 {
-    let mut terms = Vec::from_slice(alloc, layer.terms.as_slice())?;
+    let Ok(mut terms) = Vec::from_slice(alloc, layer.terms.as_slice()) else {
+        return Err(AllocError);
+    };
     let mut g = layer.wires;
     for i in 0..wires.len() {
         let term = Term {
@@ -32,7 +34,9 @@ fn attached_layer<F: Field>(
             b: wires[i],
             coef: F::zero(),
         };
-        push(&mut terms, term)?;
+        let Ok(()) = push(&mut terms, term) else {
+            return Err(AllocError);
+        };
         g += 1;
     }
     Ok(Layer {
@@ -52,9 +56,14 @@ fn attached<F: Field>(
     requires few { AreNarrowWith most_wires targets.now layers.now }
     ensures { IfOk result (λ all. all.items ≡ attached_layers F.ops targets.now layers.now) }
 {
-    let mut all = Vec::with_capacity(alloc, layers.len())?;
+    let Ok(mut all) = Vec::with_capacity(alloc, layers.len()) else {
+        return Err(AllocError);
+    };
     for l in 0..layers.len() {
-        all.push_reserved(attached_layer(alloc, &layers[l], targets[l].as_slice())?);
+        let Ok(layer) = attached_layer(alloc, &layers[l], targets[l].as_slice()) else {
+            return Err(AllocError);
+        };
+        all.push_reserved(layer);
     }
     Ok(all)
 }
@@ -89,7 +98,9 @@ pub fn asserting_used<F: Field>(
         drop(targets);
         return all;
     }
-    let (kept, moved) = used_with(alloc, inputs, layers, targets)?;
+    let Ok((kept, moved)) = used_with(alloc, inputs, layers, targets) else {
+        return Err(AllocError);
+    };
     let all = attached(alloc, &kept, &moved);
     drop(kept);
     drop(moved);

@@ -31,7 +31,9 @@ pub(crate) fn in_order<F: Field>(
         if !is_behind(row, moved) {
             return Ok(false);
         }
-        push(row, moved)?;
+        let Ok(()) = push(row, moved) else {
+            return Err(AllocError);
+        };
     }
     Ok(true)
 }

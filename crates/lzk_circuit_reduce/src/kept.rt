@@ -34,7 +34,9 @@ fn empty_slots(alloc: Global, count: u32) -> Result<Vec<Option<u32>>, AllocError
     ensures none { (k : ℕ) → IfOk result (λ slots. link_at slots.items k ≡ None) }
 {
     let mut slots = Vec::new(alloc);
-    slots.resize(count as usize, None)?;
+    let Ok(()) = slots.resize(count as usize, None) else {
+        return Err(AllocError);
+    };
     Ok(slots)
 }
 
@@ -46,8 +48,12 @@ pub fn none_kept<F: Field>(alloc: Global, most: u32) -> Result<KeptWires<F>, All
     ensures count { IfOk result (λ kept. kept.count ≡ 0) }
     ensures terms { IfOk result (λ kept. kept.terms.items ≡ []) }
 {
-    let starts = Vec::from_slice(alloc, &[0])?;
-    let heads = empty_slots(alloc, most)?;
+    let Ok(starts) = Vec::from_slice(alloc, &[0]) else {
+        return Err(AllocError);
+    };
+    let Ok(heads) = empty_slots(alloc, most) else {
+        return Err(AllocError);
+    };
     Ok(KeptWires {
         count: 0,
         terms: Vec::new(alloc),
@@ -163,9 +169,15 @@ fn add_wire<F: Field>(
     ensures more { IfOk result (λ _. HasOneMore kept.old kept.new row.now slot) }
 {
     let wire = kept.count;
-    append(&mut kept.terms, wire, row)?;
-    push(&mut kept.starts, kept.terms.len())?;
-    push(&mut kept.links, kept.heads[slot])?;
+    let Ok(()) = append(&mut kept.terms, wire, row) else {
+        return Err(AllocError);
+    };
+    let Ok(()) = push(&mut kept.starts, kept.terms.len()) else {
+        return Err(AllocError);
+    };
+    let Ok(()) = push(&mut kept.links, kept.heads[slot]) else {
+        return Err(AllocError);
+    };
     kept.heads[slot] = Some(wire);
     kept.count = wire + 1;
     Ok(wire)

@@ -17,7 +17,9 @@ pub(crate) fn marked_places(alloc: Global, marks: &[bool]) -> Result<(Vec<u32>, 
     ensures places { IfOk result (λ numbered. AreMarkedPlaces marks.now numbered.0.items) }
     ensures count { IfOk result (λ numbered. numbered.1 ≡ marked_before marks.now (length marks.now)) }
 {
-    let mut places = Vec::with_capacity(alloc, marks.len())?;
+    let Ok(mut places) = Vec::with_capacity(alloc, marks.len()) else {
+        return Err(AllocError);
+    };
     let mut next = 0;
     for k in 0..marks.len() {
         places.push_reserved(next);
@@ -34,9 +36,11 @@ pub(crate) fn first_marked(alloc: Global, width: u32) -> Result<Vec<bool>, Alloc
     ensures few { IfOk result (λ marks. length marks.items < 2 ^ 32) }
     ensures marks { IfOk result (λ marks. (k : ℕ) → k < width → is_marked marks.items k ≡ (k == 0)) }
 {
-    let mut marks = Vec::with_capacity(alloc, width as usize)?;
+    let Ok(mut marks) = Vec::with_capacity(alloc, width as usize) else {
+        return Err(AllocError);
+    };
     for k in 0..width {
-        marks.push(k == 0)?;
+        marks.push_reserved(k == 0);
     }
     Ok(marks)
 }

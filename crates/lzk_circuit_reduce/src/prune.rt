@@ -32,7 +32,9 @@ fn with_places(alloc: Global, marks: Vec<bool>) -> Result<Marked, AllocError>
     requires { length marks.items < 2 ^ 32 }
     ensures { IfOk result (λ marked. marked.marks ≡ marks) }
 {
-    let (places, count) = marked_places(alloc, &marks)?;
+    let Ok((places, count)) = marked_places(alloc, &marks) else {
+        return Err(AllocError);
+    };
     Ok(Marked {
         marks,
         places,
@@ -46,7 +48,9 @@ fn all_marked(alloc: Global, count: u32) -> Result<Marked, AllocError>
     ensures marks { IfOk result (λ all. (k : ℕ) → k < count → is_marked all.marks.items k ≡ true) }
 {
     let mut marks = Vec::new(alloc);
-    marks.resize(count as usize, true)?;
+    let Ok(()) = marks.resize(count as usize, true) else {
+        return Err(AllocError);
+    };
     with_places(alloc, marks)
 }
 
@@ -68,7 +72,9 @@ fn marks_with<F: Field>(
     let Some(first) = under.first() else {
         return all_marked(alloc, inputs);
     };
-    let mut below = first_marked(alloc, first.wires)?;
+    let Ok(mut below) = first_marked(alloc, first.wires) else {
+        return Err(AllocError);
+    };
     let named = below.as_mut_slice();
     mark_used(named, layer.terms.as_slice(), marks);
     mark_each(named, own);
@@ -88,7 +94,9 @@ fn add_marked<F: Field>(
         kept.new.items ≡ kept.old.items ++ used_layer above.now.marks.items below.now.marks.items layer.now ∷ []) }
 {
     let terms = layer.terms.as_slice();
-    let mut used = Vec::with_capacity(alloc, terms.len())?;
+    let Ok(mut used) = Vec::with_capacity(alloc, terms.len()) else {
+        return Err(AllocError);
+    };
     for i in 0..terms.len() {
         let term = terms[i];
         if above.marks[term.g as usize] {
@@ -132,7 +140,9 @@ fn is_used<F: Field>(
     requires targets { AreBelow layer.now.wires own.now }
     ensures { IfOk result (λ used. used ≡ true → AreUsedWith above.now own.now layer.now) }
 {
-    let mut below = first_marked(alloc, layer.wires)?;
+    let Ok(mut below) = first_marked(alloc, layer.wires) else {
+        return Err(AllocError);
+    };
     let marks = below.as_mut_slice();
     mark_named(marks, above.terms.as_slice());
     mark_each(marks, own);
@@ -149,7 +159,10 @@ pub(crate) fn are_used<F: Field>(
     let layers = given.layers;
     for l in 1..layers.len() {
         let own = targets_of(given.targets, l - 1);
-        if !is_used(alloc, &layers[l - 1], own, &layers[l])? {
+        let Ok(used) = is_used(alloc, &layers[l - 1], own, &layers[l]) else {
+            return Err(AllocError);
+        };
+        if !used {
             return Ok(false);
         }
     }
@@ -175,16 +188,22 @@ fn add_pruned<F: Field>(
     let layers = given.layers;
     let layer = &layers[l];
     let own = targets_of(given.targets, l);
-    let below = marks_with(
+    let Ok(below) = marks_with(
         alloc,
         given.inputs,
         layer,
         &above.marks,
         own,
         &layers[l + 1..],
-    )?;
-    add_marked(alloc, layer, above, &below, kept)?;
-    add_renumbered(alloc, own, &below.places, moved)?;
+    ) else {
+        return Err(AllocError);
+    };
+    let Ok(()) = add_marked(alloc, layer, above, &below, kept) else {
+        return Err(AllocError);
+    };
+    let Ok(()) = add_renumbered(alloc, own, &below.places, moved) else {
+        return Err(AllocError);
+    };
     Ok(below)
 }
 
@@ -198,11 +217,16 @@ pub(crate) fn pruned<F: Field>(
         IsPruned given.now.inputs given.now.targets.now given.now.layers.now kept.1.items kept.0.items) }
 {
     let layers = given.layers;
-    let mut above = all_marked(alloc, layers[0].wires)?;
+    let Ok(mut above) = all_marked(alloc, layers[0].wires) else {
+        return Err(AllocError);
+    };
     let mut kept = Vec::new(alloc);
     let mut moved = Vec::new(alloc);
     for l in 0..layers.len() {
-        above = add_pruned(alloc, given, l, &above, &mut kept, &mut moved)?;
+        let Ok(below) = add_pruned(alloc, given, l, &above, &mut kept, &mut moved) else {
+            return Err(AllocError);
+        };
+        above = below;
     }
     drop(above);
     Ok((kept, moved))

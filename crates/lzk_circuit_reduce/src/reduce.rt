@@ -34,7 +34,12 @@ pub(crate) fn used_with<F: Field>(
         layers: &layers,
         targets: &targets,
     };
-    if are_used(alloc, &given)? {
+    let Ok(all) = are_used(alloc, &given) else {
+        drop(layers);
+        drop(targets);
+        return Err(AllocError);
+    };
+    if all {
         return Ok((layers, targets));
     }
     let kept = pruned(alloc, &given);
@@ -58,7 +63,9 @@ fn reduced_by_sharing<F: Field>(
     ensures values { IfOk result (λ kept. AreSameOutputs F.ops inputs kept.items layers.now) }
     ensures reduced { IfOk result (λ kept. IsReduced F.ops kept.items) }
 {
-    let different = shared(alloc, inputs, layers)?;
+    let Ok(different) = shared(alloc, inputs, layers) else {
+        return Err(AllocError);
+    };
     used(alloc, inputs, different)
 }
 
@@ -84,10 +91,16 @@ pub fn reduced<F: Field>(
         layers,
         targets: &[],
     };
-    if are_used(alloc, &given)? {
+    let Ok(all) = are_used(alloc, &given) else {
+        return Err(AllocError);
+    };
+    if all {
         return reduced_by_sharing(alloc, inputs, layers);
     }
-    let (left, _) = pruned(alloc, &given)?;
+    let Ok((left, moved)) = pruned(alloc, &given) else {
+        return Err(AllocError);
+    };
+    drop(moved);
     let result = reduced_by_sharing(alloc, inputs, &left);
     drop(left);
     result
@@ -109,6 +122,9 @@ pub fn used<F: Field>(
     ensures values { IfOk result (λ kept. AreSameOutputs F.ops inputs kept.items layers.items) }
     ensures reduced { IfOk result (λ kept. IsReduced F.ops kept.items) }
 {
-    let (kept, _) = used_with(alloc, inputs, layers, Vec::new(alloc))?;
+    let Ok((kept, moved)) = used_with(alloc, inputs, layers, Vec::new(alloc)) else {
+        return Err(AllocError);
+    };
+    drop(moved);
     Ok(kept)
 }

@@ -22,15 +22,28 @@ pub(crate) fn renumber<F: Field>(
     requires nonzero { AreNonzero F.ops terms.now }
     ensures { IfOk result (λ _. IsRenumbered F.ops numbers.now terms.now row.new.items) }
 {
-    if in_order(terms, numbers, row)? {
+    let Ok(found) = in_order(terms, numbers, row) else {
+        return Err(AllocError);
+    };
+    if found {
         return Ok(());
     }
     let (front, back) = terms.split_at(terms.len() / 2);
-    renumber(alloc, back, numbers, row)?;
-    let mut left = Vec::with_capacity(alloc, front.len())?;
-    renumber(alloc, front, numbers, &mut left)?;
-    *row = merged(alloc, &left, row)?;
+    let Ok(()) = renumber(alloc, back, numbers, row) else {
+        return Err(AllocError);
+    };
+    let Ok(mut left) = Vec::with_capacity(alloc, front.len()) else {
+        return Err(AllocError);
+    };
+    let Ok(()) = renumber(alloc, front, numbers, &mut left) else {
+        return Err(AllocError);
+    };
+    let sum = merged(alloc, &left, row);
     drop(left);
+    let Ok(sum) = sum else {
+        return Err(AllocError);
+    };
+    *row = sum;
     Ok(())
 }
 
@@ -65,7 +78,9 @@ pub(crate) fn wire_row<F: Field>(
 {
     let terms = layer.terms.as_slice();
     let end = end_of(terms, start, g);
-    renumber(alloc, &terms[start..end], numbers, row)?;
+    let Ok(()) = renumber(alloc, &terms[start..end], numbers, row) else {
+        return Err(AllocError);
+    };
     Ok(end)
 }
 
@@ -78,12 +93,18 @@ pub(crate) fn moved_layer<F: Field>(
     requires { AreTerms F.ops layer.now.wires (length numbers.now) None layer.now.terms }
     ensures { IfOk result (IsMovedLayer F.ops layer.now numbers.now) }
 {
-    let mut terms = Vec::with_capacity(alloc, layer.terms.as_slice().len())?;
+    let Ok(mut terms) = Vec::with_capacity(alloc, layer.terms.as_slice().len()) else {
+        return Err(AllocError);
+    };
     let mut row = Vec::new(alloc);
     let mut start = 0;
     for g in 0..layer.wires {
-        let end = wire_row(alloc, layer, numbers, start, g, &mut row)?;
-        append(&mut terms, g, &row)?;
+        let Ok(end) = wire_row(alloc, layer, numbers, start, g, &mut row) else {
+            return Err(AllocError);
+        };
+        let Ok(()) = append(&mut terms, g, &row) else {
+            return Err(AllocError);
+        };
         start = end;
     }
     Ok(Layer {

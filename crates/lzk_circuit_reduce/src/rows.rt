@@ -53,7 +53,9 @@ pub fn single<F: Field>(alloc: Global, coef: F, a: u32, b: u32) -> Result<Vec<Te
     if is_zero(coef) {
         return Ok(Vec::new(alloc));
     }
-    let mut row = Vec::with_capacity(alloc, 1)?;
+    let Ok(mut row) = Vec::with_capacity(alloc, 1) else {
+        return Err(AllocError);
+    };
     row.push_reserved(term_of(coef, a, b));
     Ok(row)
 }
@@ -75,7 +77,9 @@ pub fn scaled<F: Field>(
     if is_zero(factor) {
         return Ok(Vec::new(alloc));
     }
-    let mut multiple = Vec::with_capacity(alloc, row.len())?;
+    let Ok(mut multiple) = Vec::with_capacity(alloc, row.len()) else {
+        return Err(AllocError);
+    };
     for term in row {
         multiple.push_reserved(Term {
             coef: factor.mul(term.coef),
@@ -124,15 +128,21 @@ pub fn merged<F: Field>(
     let Some(most) = left.len().checked_add(right.len()) else {
         return Err(AllocError);
     };
-    let mut sum = Vec::with_capacity(alloc, most)?;
+    let Ok(mut sum) = Vec::with_capacity(alloc, most) else {
+        return Err(AllocError);
+    };
     let (mut i, mut j) = (0, 0);
     while i < left.len() && j < right.len() {
         let (from_left, from_right) = push_next(&mut sum, left[i], right[j]);
         i += from_left;
         j += from_right;
     }
-    sum.extend_from_slice(&left[i..])?;
-    sum.extend_from_slice(&right[j..])?;
+    let Ok(()) = sum.extend_from_slice(&left[i..]) else {
+        return Err(AllocError);
+    };
+    let Ok(()) = sum.extend_from_slice(&right[j..]) else {
+        return Err(AllocError);
+    };
     Ok(sum)
 }
 
@@ -149,7 +159,9 @@ pub fn append<F: Field>(terms: &mut Vec<Term<F>>, g: u32, row: &[Term<F>]) -> Re
     ensures count { IfOk result (λ _. length terms.new.items ≡ length terms.old.items + length row.now) }
     ensures exact { IfOk result (λ _. terms.new.items ≡ terms.old.items ++ map (placed g) row.now) }
 {
-    terms.reserve(row.len())?;
+    let Ok(()) = terms.reserve(row.len()) else {
+        return Err(AllocError);
+    };
     for term in row {
         terms.push_reserved(Term { g, ..*term });
     }

@@ -25,14 +25,22 @@ fn shared_layer<F: Field>(
     requires most { layer.now.wires ≤ most_wires }
     ensures { IfOk result (λ shared. IsSharedLayer F.ops layer.now numbers.old.items shared numbers.new.items) }
 {
-    let mut wires = Vec::with_capacity(alloc, layer.wires as usize)?;
-    let mut kept = none_kept(alloc, layer.wires)?;
+    let Ok(mut wires) = Vec::with_capacity(alloc, layer.wires as usize) else {
+        return Err(AllocError);
+    };
+    let Ok(mut kept) = none_kept(alloc, layer.wires) else {
+        return Err(AllocError);
+    };
     let mut row = Vec::new(alloc);
     let below = numbers.as_slice();
     let mut start = 0;
     for g in 0..layer.wires {
-        let end = wire_row(alloc, layer, below, start, g, &mut row)?;
-        let wire = wire_of(&mut kept, &row)?;
+        let Ok(end) = wire_row(alloc, layer, below, start, g, &mut row) else {
+            return Err(AllocError);
+        };
+        let Ok(wire) = wire_of(&mut kept, &row) else {
+            return Err(AllocError);
+        };
         wires.push_reserved(wire);
         start = end;
     }
@@ -49,7 +57,9 @@ fn numbers_below(alloc: Global, count: u32) -> Result<Vec<u32>, AllocError>
     ensures count { IfOk result (λ numbers. length numbers.items ≡ count) }
     ensures each { (k : ℕ) → k < count → IfOk result (λ numbers. at numbers.items k ≡ k) }
 {
-    let mut numbers = Vec::with_capacity(alloc, count as usize)?;
+    let Ok(mut numbers) = Vec::with_capacity(alloc, count as usize) else {
+        return Err(AllocError);
+    };
     for i in 0..count {
         numbers.push_reserved(i);
     }
@@ -68,13 +78,24 @@ pub(crate) fn shared<F: Field>(
     requires ones { HaveOnes F.ops layers.now }
     ensures { IfOk result (λ kept. AreSharedLayers F.ops inputs layers.now kept.items) }
 {
-    let mut kept = Vec::with_capacity(alloc, layers.len())?;
-    let mut numbers = numbers_below(alloc, inputs)?;
+    let Ok(mut numbers) = numbers_below(alloc, inputs) else {
+        return Err(AllocError);
+    };
+    let Ok(mut kept) = Vec::with_capacity(alloc, layers.len()) else {
+        return Err(AllocError);
+    };
     for l in (1..layers.len()).rev() {
-        kept.push_reserved(shared_layer(alloc, &layers[l], &mut numbers)?);
+        let Ok(layer) = shared_layer(alloc, &layers[l], &mut numbers) else {
+            return Err(AllocError);
+        };
+        kept.push_reserved(layer);
     }
-    kept.push_reserved(moved_layer(alloc, &layers[0], &numbers)?);
+    let moved = moved_layer(alloc, &layers[0], &numbers);
     drop(numbers);
+    let Ok(top) = moved else {
+        return Err(AllocError);
+    };
+    kept.push_reserved(top);
     kept.reverse();
     Ok(kept)
 }

@@ -60,9 +60,13 @@ pub(crate) fn add_renumbered(
     requires { AreBelow (length numbers.now) wires.now }
     ensures { IfOk result (λ _. moved.new.items ≡ moved.old.items ++ map (at numbers.now) wires.now ∷ []) }
 {
-    let mut list = Vec::with_capacity(alloc, wires.len())?;
+    let Ok(mut list) = Vec::with_capacity(alloc, wires.len()) else {
+        return Err(AllocError);
+    };
     for i in 0..wires.len() {
-        push(&mut list, numbers[wires[i] as usize])?;
+        let Ok(()) = push(&mut list, numbers[wires[i] as usize]) else {
+            return Err(AllocError);
+        };
     }
     push(moved, Targets::new(list))
 }

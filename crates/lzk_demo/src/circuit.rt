@@ -35,7 +35,9 @@ fn compiled(alloc: Global, n: u32) -> Result<AnyCircuit, LevelError>
     ensures circuit { IfOk result (IsCircuitOf (demo_tree n)) }
     ensures memory { IfErr result (λ e. e ≡ OutOfMemory) }
 {
-    let code = demo_code(alloc, n)?;
+    let Ok(code) = demo_code(alloc, n) else {
+        return Err(LevelError::OutOfMemory);
+    };
     compile_code(alloc, code, Version::One)
 }
 

@@ -62,13 +62,17 @@ fn push_round(
     ensures lets { (ss : List Statement) → AreWordsOf ss words.old.items
         → OnOk result (AreWordsOf (ss ++ round_lets first entries.now) words.new.items) }
 {
-    let mut list = Vec::with_capacity(alloc, entries.len() / 2 + 1)?;
+    let Ok(mut list) = Vec::with_capacity(alloc, entries.len() / 2 + 1) else {
+        return Err(AllocError);
+    };
     for i in 0..entries.len() / 2 {
-        push_let(entries[2 * i], entries[2 * i + 1], words)?;
-        list.push(Entry::Made(first + i as u32))?;
+        let Ok(()) = push_let(entries[2 * i], entries[2 * i + 1], words) else {
+            return Err(AllocError);
+        };
+        list.push_reserved(Entry::Made(first + i as u32));
     }
     if entries.len() % 2 == 1 {
-        list.push(entries[entries.len() - 1])?;
+        list.push_reserved(entries[entries.len() - 1]);
     }
     Ok(list)
 }
@@ -83,7 +87,9 @@ fn push_rounds(alloc: Global, inputs: Vec<Entry>, words: &mut Vec<Word>) -> Resu
     let mut entries = inputs;
     let mut made = 0;
     while entries.len() > 1 {
-        let list = push_round(alloc, made, &entries, words)?;
+        let Ok(list) = push_round(alloc, made, &entries, words) else {
+            return Err(AllocError);
+        };
         made += (entries.len() / 2) as u32;
         entries = list;
     }
@@ -94,9 +100,11 @@ fn push_rounds(alloc: Global, inputs: Vec<Entry>, words: &mut Vec<Word>) -> Resu
 fn inputs(alloc: Global, n: u32) -> Result<Vec<Entry>, AllocError>
     ensures { IfOk result (λ list. list.items ≡ inputs_from 0 n) }
 {
-    let mut list = Vec::with_capacity(alloc, n as usize)?;
+    let Ok(mut list) = Vec::with_capacity(alloc, n as usize) else {
+        return Err(AllocError);
+    };
     for i in 0..n {
-        list.push(Entry::Input(i))?;
+        list.push_reserved(Entry::Input(i));
     }
     Ok(list)
 }
@@ -110,9 +118,17 @@ pub fn demo_code(alloc: Global, n: u32) -> Result<Code, AllocError>
     requires few { n ≤ 16384 }
     ensures { IfOk result (λ code. IsCodeOf code (demo_tree n)) }
 {
-    let mut words = Vec::with_capacity(alloc, 10 * n as usize)?;
-    let inputs = inputs(alloc, n)?;
-    push_rounds(alloc, inputs, &mut words)?;
-    let numbers = vec![in alloc; 2]?;
+    let Ok(mut words) = Vec::with_capacity(alloc, 10 * n as usize) else {
+        return Err(AllocError);
+    };
+    let Ok(inputs) = inputs(alloc, n) else {
+        return Err(AllocError);
+    };
+    let Ok(()) = push_rounds(alloc, inputs, &mut words) else {
+        return Err(AllocError);
+    };
+    let Ok(numbers) = vec![in alloc; 2] else {
+        return Err(AllocError);
+    };
     Ok(Code::new(FieldId::Goldilocks, 1, n, words, numbers))
 }

@@ -43,15 +43,19 @@ pub fn demo_inputs(alloc: Global, n: u32) -> Result<DemoInputs, AllocError>
     ensures value { IfOk result (λ inputs.
         source_value ops of_number inputs.public.items inputs.private.items (demo_statements n) ≡ ops.zero ∷ []) }
 {
-    let mut private = Vec::new(alloc);
+    let Ok(mut private) = Vec::with_capacity(alloc, n as usize) else {
+        return Err(AllocError);
+    };
     let mut odd = false;
     let mut bit = true;
     for _ in 0..n {
-        private.push(bit_of(bit))?;
+        private.push_reserved(bit_of(bit));
         odd = differ(odd, bit);
         bit = !bit;
     }
     let mut public = Vec::new(alloc);
-    public.push(bit_of(odd))?;
+    let Ok(()) = public.push(bit_of(odd)) else {
+        return Err(AllocError);
+    };
     Ok(DemoInputs { public, private })
 }

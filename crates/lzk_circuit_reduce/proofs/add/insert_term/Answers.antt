@@ -21,19 +21,19 @@ returns-clause-row g c width h wire order below =
       | else-place-len-via-then-place-len+else-not-is_before w ↦ subst (Less t) (any-default row place w.index.result.now t l w.index.ensures) (w.is_before.ensures.yes w.if-not-is_before.false)
       | else-place-len-via-else-place-len w ↦ absurd (omega (arith, l))
     ] in
-    subst (IsRow o width) (sym c.in_ok-insert.ensures.items) (inserted-row o width row place t is behind ahead h)
+    subst (IsRow o width) (sym c.in-Ok.ensures.items) (inserted-row o width row place t is behind ahead h)
 
 pub returns-clause-value : goal.returns-clause-value
 returns-clause-value g c below =
     let o = g.F.Field.ops in
-    ap (row_value o below) c.in_ok-insert.ensures.items ∙ inserted-value o g.F.Field.laws.ring below c.args.row.now.items c.place_of-place.result c.args.term
+    ap (row_value o below) c.in-Ok.ensures.items ∙ inserted-value o g.F.Field.laws.ring below c.args.row.now.items c.place_of-place.result c.args.term
 
 pub returns-clause-under : goal.returns-clause-under
 returns-clause-under g c ns d h under =
     let row = c.args.row.now.items in
     let t = c.args.term in
     let place = c.place_of-place.result in
-    subst (AreUnder ns d) (sym c.in_ok-insert.ensures.items)
+    subst (AreUnder ns d) (sym c.in-Ok.ensures.items)
     (All-append (IsUnder ns d) (take place row) (t ∷ drop place row) (All-take (IsUnder ns d) place row h) (All-cons (IsUnder ns d) t (drop place row) under (All-drop (IsUnder ns d) place row h)))
 
 pub returns-then-not-is_before-clause-row : goal.returns-then-not-is_before-clause-row

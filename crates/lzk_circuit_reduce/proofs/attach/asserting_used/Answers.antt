@@ -23,9 +23,9 @@ returns-then-len-eq1 g c =
 
 pub attached-all-requires-2-clause-few : goal.attached-all-requires-2-clause-few
 attached-all-requires-2-clause-few g c κs within =
-    let f = c.in_ok-kept.ensures.form in
-    let moved = c.in_ok-kept.moved.items in
-    let kept = c.in_ok-kept.kept.items in
+    let f = c.in-Ok.ensures.form in
+    let moved = c.in-Ok.moved.items in
+    let kept = c.in-Ok.kept.items in
     subst (λ ms. AreNarrowWith most_wires ms c.deref-2.result.now) (sym c.deref-3.ensures.value)
     (subst (AreNarrowWith most_wires moved) (sym c.deref-2.ensures.value) (still-narrow most_wires moved c.args.targets.items kept c.args.layers.items f.count f.fewer f.as_many c.requires.narrow))
 
@@ -37,9 +37,9 @@ returns g c =
     let ws = c.args.targets.items in
     let layers = c.args.layers.items in
     let r = c.requires in
-    let e = c.in_ok-kept.ensures in
-    let moved = c.in_ok-kept.moved.items in
-    let kept = c.in_ok-kept.kept.items in
+    let e = c.in-Ok.ensures in
+    let moved = c.in-Ok.moved.items in
+    let kept = c.in-Ok.kept.items in
     let lists = c.deref-3.result.now in
     let form = reduced-form o g.F.Field.coding.size number g.F.Field.coding.element g.F.Field.coding.bytes g.F.Field.laws inputs ws layers moved kept r.some r.inputs r.narrow r.checks r.few_wires r.few_terms e.form e.reduced in
     let same = ap (attached_layers o lists) c.deref-2.ensures.value ∙ ap (λ ms. attached_layers o ms kept) c.deref-3.ensures.value in

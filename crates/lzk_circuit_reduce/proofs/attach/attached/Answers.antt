@@ -23,9 +23,9 @@ attached-more o ws layers before more all l layer own within is own_is push h =
 
 pub loop-l-init : goal.loop-l-init
 loop-l-init g c = record {
-  all = ap (λ xs. xs ++ attached_layers g.F.Field.ops c.args.targets.now c.args.layers.now) c.in_ok-all.ensures.items;
-  count = ap length c.in_ok-all.ensures.items;
-  room = omega (arith, c.in_ok-all.ensures.capacity);
+  all = ap (λ xs. xs ++ attached_layers g.F.Field.ops c.args.targets.now c.args.layers.now) c.in-Ok.ensures.items;
+  count = ap length c.in-Ok.ensures.items;
+  room = omega (arith, c.in-Ok.ensures.capacity);
 }
 
 pub push_reserved-requires : goal.push_reserved-requires
@@ -52,8 +52,8 @@ loop-l-preserved g c =
     record {
       all =
           attached-more o ws layers before c.push_reserved.new.self.items (attached_layers o ws layers) l layer c.as_slice.result.now c.loop-l-test.true c.index-layers-l.is own
-          (push.items ∙ ap (λ x. before ++ x ∷ []) c.in_ok-attached_layer.ensures) c.loop-l.invariant.all;
-      count = omega (arith, ap length push.items, length-append before (c.in_ok-attached_layer.field-0 ∷ []), c.loop-l.invariant.count);
+          (push.items ∙ ap (λ x. before ++ x ∷ []) c.in-Ok-attached_layer.ensures) c.loop-l.invariant.all;
+      count = omega (arith, ap length push.items, length-append before (c.in-Ok-attached_layer.layer ∷ []), c.loop-l.invariant.count);
       room = omega (arith, push.capacity, c.loop-l.invariant.room);
     }
 

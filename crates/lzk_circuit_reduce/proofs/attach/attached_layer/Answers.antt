@@ -18,7 +18,7 @@ pub overflow_add-g : goal.overflow_add-g
 overflow_add-g g c = omega (arith, c.loop-i.invariant.0)
 
 pub loop-i-init : goal.loop-i-init
-loop-i-init g c = (omega arith, c.in_ok-terms.ensures.items ∙ c.as_slice.ensures ∙ sym (append-nil c.args.layer.now.terms))
+loop-i-init g c = (omega arith, c.in-Ok.ensures.items ∙ c.as_slice.ensures ∙ sym (append-nil c.args.layer.now.terms))
 
 pub returns : goal.returns
 returns g c =
@@ -34,6 +34,6 @@ loop-i-preserved g c =
     let before = assertions o layer.wires (take i ws) in
     let f : ℕ → List (Term _) = λ k. record { g = k; a = 0; b = get_or ws i 0; coef = o.zero } ∷ [] in (
       omega (arith, inv.0),
-      c.in_ok-push.ensures ∙ ap (λ x. c.loop-i.terms.items ++ record { g = c.loop-i.g; a = 0; b = get_or ws i 0; coef = x } ∷ []) c.zero.ensures ∙ ap (λ xs. xs ++ f c.loop-i.g) inv.1 ∙ append_assoc layer.terms before (f c.loop-i.g) ∙ ap (λ k. layer.terms ++ (before ++ f k)) inv.0
+      c.in-Ok-push.ensures ∙ ap (λ x. c.loop-i.terms.items ++ record { g = c.loop-i.g; a = 0; b = get_or ws i 0; coef = x } ∷ []) c.zero.ensures ∙ ap (λ xs. xs ++ f c.loop-i.g) inv.1 ∙ append_assoc layer.terms before (f c.loop-i.g) ∙ ap (λ k. layer.terms ++ (before ++ f k)) inv.0
           ∙ ap (λ us. layer.terms ++ us) (sym (assertions-more o layer.wires ws i 0 c.loop-i-test.true)),
     )

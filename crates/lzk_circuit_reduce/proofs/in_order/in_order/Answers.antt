@@ -47,7 +47,7 @@ loop-i-preserved g c =
     let numbers = c.args.numbers.now in
     let t = c.index-terms-i.result in
     let moved = c.term_of-moved in
-    let pushed = c.in_ok-push.ensures in
+    let pushed = c.in-Ok.ensures in
     let l : c.loop-i.i < length terms = c.loop-i-test.true in
     let over = over-of-index (length numbers) c.loop-i.i terms t l c.index-terms-i.is c.requires.terms in (
       map-more (over_numbers numbers) terms c.loop-i.row.items c.push.new.list.items c.loop-i.i t l c.index-terms-i.is (pushed ∙ ap (λ u. c.loop-i.row.items ++ u ∷ []) moved.ensures.exact) c.loop-i.invariant.0,

@@ -14,9 +14,9 @@ returns-clause-more g c =
     let long : c.len.result ≡ length c.append.new.terms.items = omega (arith, c.len.ensures, c.append.new.terms.ok.0) in
     record {
       count = refl;
-      terms = c.in_ok-append.ensures.exact;
-      starts = c.in_ok-push.ensures ∙ ap (λ n. old.starts.items ++ n ∷ []) long;
-      links = c.in_ok-push-2.ensures ∙ ap (λ x. old.links.items ++ x ∷ []) (any-default old.heads.items c.args.slot c.index.result.now None c.requires.within c.index.ensures);
+      terms = c.in-Ok.ensures.exact;
+      starts = c.in-Ok-push.ensures ∙ ap (λ n. old.starts.items ++ n ∷ []) long;
+      links = c.in-Ok-push-2.ensures ∙ ap (λ x. old.links.items ++ x ∷ []) (any-default old.heads.items c.args.slot c.index.result.now None c.requires.within c.index.ensures);
       heads = refl;
       within = c.requires.within;
     }

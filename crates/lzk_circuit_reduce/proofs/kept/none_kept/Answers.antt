@@ -5,12 +5,12 @@ use Rattle.lzk_circuit_reduce.proofs.kept.none_kept.Goals as goal
 
 pub returns-clause-table : goal.returns-clause-table
 returns-clause-table g c =
-    let kept : KeptWires _ = record { count = 0; terms = c.new.result; starts = c.in_ok-starts.starts; heads = c.in_ok-heads.heads; links = c.new-2.result } in
-    none-table kept refl c.new.ensures.items c.in_ok-starts.ensures.items c.new-2.ensures.items (subst (λ n. 1 ≤ n) (sym c.in_ok-heads.ensures.count) c.requires) c.in_ok-heads.ensures.none
+    let kept : KeptWires _ = record { count = 0; terms = c.new.result; starts = c.in-Ok.starts; heads = c.in-Ok-empty_slots.heads; links = c.new-2.result } in
+    none-table kept refl c.new.ensures.items c.in-Ok.ensures.items c.new-2.ensures.items (subst (λ n. 1 ≤ n) (sym c.in-Ok-empty_slots.ensures.count) c.requires) c.in-Ok-empty_slots.ensures.none
 
 pub returns-clause-kept : goal.returns-clause-kept
 returns-clause-kept g c width =
-    let kept : KeptWires _ = record { count = 0; terms = c.new.result; starts = c.in_ok-starts.starts; heads = c.in_ok-heads.heads; links = c.new-2.result } in
+    let kept : KeptWires _ = record { count = 0; terms = c.new.result; starts = c.in-Ok.starts; heads = c.in-Ok-empty_slots.heads; links = c.new-2.result } in
     none-kept kept refl c.new.ensures.items g.F.Field.ops g.F.Field.coding.number width
 
 pub returns-clause-count : goal.returns-clause-count

@@ -18,16 +18,20 @@ marked-more marks more k e count each j l =
     ]
 
 pub loop-k-init : goal.loop-k-init
-loop-k-init c = (ap length c.in_ok-marks.ensures.items, λ j l. absurd (omega (arith, l)))
+loop-k-init c = (ap length c.in-Ok.ensures.items, λ j l. absurd (omega (arith, l)), omega (arith, c.in-Ok.ensures.capacity))
 
 pub loop-k-preserved : goal.loop-k-preserved
 loop-k-preserved c =
     let k = c.loop-k.k in
     let old = c.loop-k.marks.items in
     let inv = c.loop-k.invariant in (
-      omega (arith, ap length c.in_ok-push.ensures.items, length-append old ((k == 0) ∷ []), inv.0),
-      marked-more old c.push.new.self.items k c.in_ok-push.ensures.items inv.0 inv.1,
+      omega (arith, ap length c.push_reserved.ensures.items, length-append old ((k == 0) ∷ []), inv.0),
+      marked-more old c.push_reserved.new.self.items k c.push_reserved.ensures.items inv.0 inv.1,
+      omega (arith, c.push_reserved.ensures.capacity, inv.2),
     )
+
+pub push_reserved-requires : goal.push_reserved-requires
+push_reserved-requires c = omega (arith, c.loop-k.marks.ok.0, c.loop-k.invariant.0, c.loop-k.invariant.2, c.loop-k-test.true)
 
 pub returns-clause-count : goal.returns-clause-count
 returns-clause-count c = omega (arith, c.loop-k.invariant.0, c.loop-k-test.false, c.loop-k.auto.k-end)

@@ -8,9 +8,9 @@ use Rattle.lzk_circuit_reduce.proofs.marks.marked_places.Goals as goal
 pub loop-k-init : goal.loop-k-init
 loop-k-init c = record {
   next_is = refl;
-  count = ap length c.in_ok-places.ensures.items;
+  count = ap length c.in-Ok.ensures.items;
   each = λ j l. absurd (omega (arith, l));
-  room = omega (arith, c.in_ok-places.ensures.capacity);
+  room = omega (arith, c.in-Ok.ensures.capacity);
 }
 
 pub push_reserved-requires : goal.push_reserved-requires

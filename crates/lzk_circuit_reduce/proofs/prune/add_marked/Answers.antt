@@ -111,9 +111,9 @@ loop-i-init g c =
     let below = c.args.below.now in
     let ts = c.as_slice-terms.result.now in
     record {
-      all = ap (λ xs. xs ++ used_terms above.marks.items below.marks.items ts) c.in_ok-used.ensures.items;
-      few = omega (arith, ap length c.in_ok-used.ensures.items);
-      room = omega (arith, c.in_ok-used.ensures.capacity);
+      all = ap (λ xs. xs ++ used_terms above.marks.items below.marks.items ts) c.in-Ok.ensures.items;
+      few = omega (arith, ap length c.in-Ok.ensures.items);
+      room = omega (arith, c.in-Ok.ensures.capacity);
     }
 
 pub push_reserved-requires : goal.push_reserved-requires

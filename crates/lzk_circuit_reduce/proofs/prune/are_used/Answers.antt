@@ -28,7 +28,7 @@ pub loop-l-preserved : goal.loop-l-preserved
 loop-l-preserved g c =
     let given = c.args.given.now in
     used-next given.targets.now given.layers.now c.loop-l.l c.index-layers-l.result c.index-layers-l-in-loop-l.result c.targets_of-own.result.now c.loop-l-test.true c.index-layers-l.is c.index-layers-l-in-loop-l.is
-    c.targets_of-own.ensures (c.in_ok-is_used.ensures c.if-not-branch.false) c.loop-l.invariant
+    c.targets_of-own.ensures (c.in-Ok.ensures c.if-not-used.false) c.loop-l.invariant
 
 pub is_used-requires-clause-terms : goal.is_used-requires-clause-terms
 is_used-requires-clause-terms g c κs within =

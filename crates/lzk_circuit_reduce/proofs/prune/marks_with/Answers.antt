@@ -28,14 +28,14 @@ mark_used-requires-after_bounds g c κs within =
     let marks = c.args.marks.now in
     let first = c.as_mut_slice-named.result.now in
     let count : length first ≡ (under_of c.args.inputs c.args.under.now).width =
-    ap length c.as_mut_slice-named.ensures.value ∙ c.in_ok-below.ensures.count ∙ first-width c.args.inputs c.args.under.now c.in-Some.first.now c.in-Some.ensures.value in
+    ap length c.as_mut_slice-named.ensures.value ∙ c.in-Ok.ensures.count ∙ first-width c.args.inputs c.args.under.now c.in-Some.first.now c.in-Some.ensures.value in
     subst (λ ts. AreTerms g.F.Field.ops (length marks) (length first) None ts) (sym c.as_slice.ensures)
     (subst (λ w. AreTerms g.F.Field.ops (length marks) w None c.args.layer.now.terms) (sym count) c.requires.terms)
 
 pub mark_each-requires : goal.mark_each-requires
 mark_each-requires g c =
     let width = first-width c.args.inputs c.args.under.now c.in-Some.first.now c.in-Some.ensures.value in
-    let count : length c.mark_used.new.below ≡ (under_of c.args.inputs c.args.under.now).width = omega (arith, c.mark_used.auto.below, ap length c.as_mut_slice-named.ensures.value, c.in_ok-below.ensures.count, width) in
+    let count : length c.mark_used.new.below ≡ (under_of c.args.inputs c.args.under.now).width = omega (arith, c.mark_used.auto.below, ap length c.as_mut_slice-named.ensures.value, c.in-Ok.ensures.count, width) in
     subst (λ n. AreBelow n c.args.own.now) (sym count) c.requires.targets
 
 pub returns : goal.returns
@@ -46,7 +46,7 @@ returns g c =
     let marks = c.args.marks.now in
     let layers = c.args.under.now in
     let ws = c.args.own.now in
-    let b = c.in_ok-below.ensures in
+    let b = c.in-Ok.ensures in
     let is = c.as_mut_slice-named.ensures.value in
     let first = c.in-Some.first.now in
     let named = c.mark_used.new.below in
@@ -54,7 +54,7 @@ returns g c =
     let count : length named ≡ first.wires = omega (arith, c.mark_used.auto.below, ap length is, b.count) in
     let below = marks-first inputs marks us layers first named c.in-Some.ensures.value count (λ k l. c.mark_used.ensures k ∙ ap (λ ms. is_marked ms k || names marks us k) is ∙ ap (λ p. p || names marks us k) (b.marks k l)) in
     let all = marks-more inputs marks us ws layers named more below c.mark_each.auto.marks c.mark_each.ensures ∙ ap (λ xs. marks_of_under inputs marks xs ws layers) c.as_slice.ensures in
-    let old = c.in_ok-below.below in
+    let old = c.in-Ok.below in
     let long : length more ≡ length old.items = omega (arith, c.mark_each.auto.marks, c.mark_used.auto.below, ap length is) in
     let same = written-back old.len more old.items long (sym old.ok.0) in
     IfOk-weaker c.with_places.result _ (λ marked. marked.marks.items ≡ marks_of_under inputs marks ts ws layers) (λ marked e. ap (λ v. v.items) e ∙ same ∙ all) c.with_places.ensures
@@ -62,7 +62,7 @@ returns g c =
 pub with_places-requires : goal.with_places-requires
 with_places-requires g c =
     let more = c.mark_each.new.marks in
-    let old = c.in_ok-below.below in
+    let old = c.in-Ok.below in
     let long : length more ≡ length old.items = omega (arith, c.mark_each.auto.marks, c.mark_used.auto.below, ap length c.as_mut_slice-named.ensures.value) in
-    let few : length more < 4294967296 = omega (arith, long, c.in_ok-below.ensures.few) in
+    let few : length more < 4294967296 = omega (arith, long, c.in-Ok.ensures.few) in
     subst (λ n. n < 4294967296) (sym (ap length (written-back old.len more old.items long (sym old.ok.0)))) few

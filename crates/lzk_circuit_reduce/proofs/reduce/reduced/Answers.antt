@@ -20,16 +20,16 @@ invariant_of-given g c =
 
 pub reduced_by_sharing-result-requires-clause-some : goal.reduced_by_sharing-result-requires-clause-some
 reduced_by_sharing-result-requires-clause-some g c κs within =
-    let f = left-form g.F.Field.ops g.F.Field.laws.ring c.args.inputs c.args.layers.now c.in_ok-left.field-0-1.items c.in_ok-left.left.items c.requires.some c.requires.layers c.in_ok-left.ensures in
+    let f = left-form g.F.Field.ops g.F.Field.laws.ring c.args.inputs c.args.layers.now c.in-Ok-pruned.moved.items c.in-Ok-pruned.left.items c.requires.some c.requires.layers c.in-Ok-pruned.ensures in
     omega (arith, ap length c.deref.ensures.value, f.count, c.requires.some)
 
 pub reduced_by_sharing-result-requires-clause-layers : goal.reduced_by_sharing-result-requires-clause-layers
 reduced_by_sharing-result-requires-clause-layers g c κs within =
-    let f = left-form g.F.Field.ops g.F.Field.laws.ring c.args.inputs c.args.layers.now c.in_ok-left.field-0-1.items c.in_ok-left.left.items c.requires.some c.requires.layers c.in_ok-left.ensures in
+    let f = left-form g.F.Field.ops g.F.Field.laws.ring c.args.inputs c.args.layers.now c.in-Ok-pruned.moved.items c.in-Ok-pruned.left.items c.requires.some c.requires.layers c.in-Ok-pruned.ensures in
     subst (AreLayers g.F.Field.ops c.args.inputs) (sym c.deref.ensures.value) f.valid
 
 pub reduced_by_sharing-result-requires-clause-ones : goal.reduced_by_sharing-result-requires-clause-ones
-reduced_by_sharing-result-requires-clause-ones g c κs within = subst (HaveOnes g.F.Field.ops) (sym c.deref.ensures.value) (pruned-ones g.F.Field.ops c.args.inputs [] c.args.layers.now c.in_ok-left.field-0-1.items c.in_ok-left.left.items c.in_ok-left.ensures c.requires.layers c.requires.ones)
+reduced_by_sharing-result-requires-clause-ones g c κs within = subst (HaveOnes g.F.Field.ops) (sym c.deref.ensures.value) (pruned-ones g.F.Field.ops c.args.inputs [] c.args.layers.now c.in-Ok-pruned.moved.items c.in-Ok-pruned.left.items c.in-Ok-pruned.ensures c.requires.layers c.requires.ones)
 
 pub returns : goal.returns
 returns g c =
@@ -38,7 +38,7 @@ returns g c =
     let layers = c.args.layers.now in
     let left = c.deref.result.now in
     let is = c.deref.ensures.value in
-    let f = left-form g.F.Field.ops g.F.Field.laws.ring c.args.inputs c.args.layers.now c.in_ok-left.field-0-1.items c.in_ok-left.left.items c.requires.some c.requires.layers c.in_ok-left.ensures in
+    let f = left-form g.F.Field.ops g.F.Field.laws.ring c.args.inputs c.args.layers.now c.in-Ok-pruned.moved.items c.in-Ok-pruned.left.items c.requires.some c.requires.layers c.in-Ok-pruned.ensures in
     let u = c.reduced_by_sharing-result.ensures in
     let r = c.reduced_by_sharing-result.result in
     record {
@@ -60,7 +60,7 @@ reduced_by_sharing-requires-clause-layers g c κs within = c.requires.layers
 pub reduced_by_sharing-requires-clause-ones : goal.reduced_by_sharing-requires-clause-ones
 reduced_by_sharing-requires-clause-ones g c κs within = c.requires.ones
 
-pub returns-then-branch : goal.returns-then-branch
-returns-then-branch g c =
+pub returns-then-all : goal.returns-then-all
+returns-then-all g c =
     let u = c.reduced_by_sharing.ensures in
     record { count = u.count; layers = u.layers; outputs = u.outputs; values = u.values; reduced = u.reduced }

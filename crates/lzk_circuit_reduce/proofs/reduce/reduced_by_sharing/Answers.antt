@@ -4,24 +4,24 @@ use Rattle.lzk_circuit_reduce.specs.Reduced.{AreSameOutputs, output_count}
 use Rattle.lzk_circuit_reduce.proofs.reduce.reduced_by_sharing.Goals as goal
 
 pub used-requires-clause-some : goal.used-requires-clause-some
-used-requires-clause-some g c κs within = omega (arith, c.in_ok-different.ensures.count, c.requires.some)
+used-requires-clause-some g c κs within = omega (arith, c.in-Ok.ensures.count, c.requires.some)
 
 pub used-requires-clause-layers : goal.used-requires-clause-layers
-used-requires-clause-layers g c κs within = c.in_ok-different.ensures.valid
+used-requires-clause-layers g c κs within = c.in-Ok.ensures.valid
 
 pub used-requires-clause-ones : goal.used-requires-clause-ones
-used-requires-clause-ones g c κs within = c.in_ok-different.ensures.ones
+used-requires-clause-ones g c κs within = c.in-Ok.ensures.ones
 
 pub used-requires-clause-different : goal.used-requires-clause-different
-used-requires-clause-different g c κs within = c.in_ok-different.ensures.different
+used-requires-clause-different g c κs within = c.in-Ok.ensures.different
 
 pub returns : goal.returns
 returns g c =
     let o = g.F.Field.ops in
     let inputs = c.args.inputs in
     let layers = c.args.layers.now in
-    let different = c.in_ok-different.different.items in
-    let d = c.in_ok-different.ensures in
+    let different = c.in-Ok.different.items in
+    let d = c.in-Ok.ensures in
     let u = c.used.ensures in
     let r = c.used.result in
     record {

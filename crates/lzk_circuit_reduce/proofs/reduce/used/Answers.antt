@@ -18,13 +18,13 @@ used_with-requires-clause-different g c κs within = c.requires.different
 pub returns : goal.returns
 returns g c =
     let layers = c.args.layers.items in
-    let f = c.in_ok-kept.ensures.form in
-    let moved = c.in_ok-kept.field-0-1.items in
+    let f = c.in-Ok.ensures.form in
+    let moved = c.in-Ok.moved.items in
     let many = subst (λ ws. AreAsMany moved ws layers) c.new.ensures.items f.as_many in
     record {
       count = f.count;
       layers = f.valid;
       outputs = f.outputs;
       values = f.values;
-      reduced = reduced-alone g.F.Field.ops moved c.in_ok-kept.kept.items layers f.count many c.in_ok-kept.ensures.reduced;
+      reduced = reduced-alone g.F.Field.ops moved c.in-Ok.kept.items layers f.count many c.in-Ok.ensures.reduced;
     }

@@ -8,18 +8,18 @@ use Rattle.lzk_circuit_reduce.proofs.ReducedLaws.{are-reduced}
 use Rattle.lzk_circuit_reduce.proofs.PrunedLaws.{pruned-form, pruned-lists, pruned-used, pruned-ones, pruned-different}
 use Rattle.lzk_circuit_reduce.proofs.reduce.used_with.Goals as goal
 
-pub returns-then-branch-clause-form : goal.returns-then-branch-clause-form
-returns-then-branch-clause-form g c =
+pub returns-then-all-clause-form : goal.returns-then-all-clause-form
+returns-then-all-clause-form g c =
     let are = c.requires.are in
     form-same g.F.Field.ops c.args.inputs c.args.targets.items c.args.layers.items are.valid are.targets
 
-pub returns-then-branch-clause-lists : goal.returns-then-branch-clause-lists
-returns-then-branch-clause-lists g c lists = lists
+pub returns-then-all-clause-lists : goal.returns-then-all-clause-lists
+returns-then-all-clause-lists g c lists = lists
 
-pub returns-then-branch-clause-reduced : goal.returns-then-branch-clause-reduced
-returns-then-branch-clause-reduced g c =
+pub returns-then-all-clause-reduced : goal.returns-then-all-clause-reduced
+returns-then-all-clause-reduced g c =
     let layers = c.args.layers.items in
-    let used = c.in_ok-are_used.ensures c.if-branch.true in
+    let used = c.in-Ok.ensures c.if-all.true in
     are-reduced g.F.Field.ops c.args.targets.items layers c.requires.are.ones c.requires.different
     (subst (λ ms. AreAllUsedWith ms layers) c.deref-2.ensures.value (subst (AreAllUsedWith c.deref-2.result.now) c.deref.ensures.value used))
 

@@ -9,8 +9,8 @@ halves-short row x y front back all h i j e f = omega arith
 half-within : (n : ℕ) → n / 2 ≤ n
 half-within n = omega arith
 
-pub returns-then-branch : goal.returns-then-branch
-returns-then-branch g t c = c.in_ok-in_order.ensures.row c.if-branch.true
+pub returns-then-found : goal.returns-then-found
+returns-then-found g t c = c.in-Ok.ensures.row c.if-found.true
 
 pub in_order-requires-clause-terms : goal.in_order-requires-clause-terms
 in_order-requires-clause-terms g t c κs within = c.requires.terms
@@ -40,17 +40,17 @@ returns g t c =
     let half = length ts / 2 in
     let left = c.deref.ensures.value in
     let right = c.deref-2.ensures.value in
-    let front = c.in_ok-renumber-2.ensures in
-    let back = c.in_ok-renumber.ensures in
-    let sum = c.in_ok-row.ensures in
-    let two = c.in_ok-in_order.ensures.two c.if-branch.false in
+    let front = c.in-Ok-renumber-2.ensures in
+    let back = c.in-Ok-renumber.ensures in
+    let sum = c.in-Ok-sum.ensures in
+    let two = c.in-Ok.ensures.two c.if-found.false in
     record {
       is = λ width n. sum.row width (subst (IsRow o width) (sym left) (front.is width n)) (subst (IsRow o width) (sym right) (back.is width n));
       value = λ old new h. sum.value new
           ∙ value-of-term-halves o g.F.Field.laws.ring old half ts c.split_at.result.0.now c.split_at.result.1.now (row_value o new c.deref.result.now) (row_value o new c.deref-2.result.now) c.split_at.ensures.front c.split_at.ensures.back
           (ap (row_value o new) left ∙ front.value old new h) (ap (row_value o new) right ∙ back.value old new h);
       short =
-          halves-short (length c.in_ok-row.field-0.items) (length c.deref.result.now) (length c.deref-2.result.now) (length c.split_at.result.0.now) (length c.split_at.result.1.now) (length ts)
+          halves-short (length c.in-Ok-sum.sum.items) (length c.deref.result.now) (length c.deref-2.result.now) (length c.split_at.result.0.now) (length c.split_at.result.1.now) (length ts)
           sum.short (omega (arith, ap length left, front.short)) (omega (arith, ap length right, back.short)) c.split_at.ensures.front_len c.split_at.ensures.back_len;
       one = λ one first. absurd (omega (arith, two, one-count o ts one));
     }

@@ -7,7 +7,7 @@ use Rattle.lzk_circuit_reduce.proofs.renumber.moved_layer.Goals as goal
 pub loop-g-init : goal.loop-g-init
 loop-g-init g c =
     let o = g.F.Field.ops in
-    subst (Moving o c.args.layer.now c.args.numbers.now 0 0) (sym c.in_ok-terms.ensures.items) (moving-starts o c.args.layer.now c.args.numbers.now)
+    subst (Moving o c.args.layer.now c.args.numbers.now 0 0) (sym c.in-Ok.ensures.items) (moving-starts o c.args.layer.now c.args.numbers.now)
 
 pub wire_row-requires-clause-start : goal.wire_row-requires-clause-start
 wire_row-requires-clause-start g c κs within = c.loop-g.invariant.start_is
@@ -20,9 +20,9 @@ loop-g-preserved g c =
     let o = g.F.Field.ops in
     let row = c.deref.result.now in
     let is = c.deref.ensures.value in
-    let found = c.in_ok-end.ensures in
-    let e = c.in_ok-append.ensures in
-    moving-adds o g.F.Field.laws.ring c.args.layer.now c.args.numbers.now c.loop-g.g c.loop-g.start c.in_ok-end.end c.loop-g.terms.items row c.append.new.terms.items c.loop-g-test.true c.requires
+    let found = c.in-Ok-wire_row.ensures in
+    let e = c.in-Ok-append.ensures in
+    moving-adds o g.F.Field.laws.ring c.args.layer.now c.args.numbers.now c.loop-g.g c.loop-g.start c.in-Ok-wire_row.end c.loop-g.terms.items row c.append.new.terms.items c.loop-g-test.true c.requires
     found.end_is
     (λ width n. subst (IsRow o width) (sym is) (found.is width n))
     (λ old new h. ap (row_value o new) is ∙ found.value old new h)

@@ -43,7 +43,7 @@ returns g c =
     let us = c.as_slice-terms.result.now in
     let same = c.as_slice-terms.ensures in
     let h = c.requires.terms in
-    let row = c.in_ok-renumber.ensures in
+    let row = c.in-Ok.ensures in
     let end = c.end_of-end.ensures.end wires width (subst (AreTerms o wires width None) (sym same) h) in
     let own = own-slice o wires width c.args.g c.args.start c.end_of-end.result ts us same c.requires.start end h in
     record {

@@ -9,7 +9,7 @@ use Rattle.lzk_circuit_reduce.proofs.rows.append.Goals as goal
 pub loop-term-init : goal.loop-term-init
 loop-term-init g c =
     let old = c.args.terms.now.items in
-    record { items = c.in_ok-reserve.ensures.items ∙ sym (append-nil old); room = omega (arith, c.in_ok-reserve.ensures.ok, ap length c.in_ok-reserve.ensures.items) }
+    record { items = c.in-Ok.ensures.items ∙ sym (append-nil old); room = omega (arith, c.in-Ok.ensures.ok, ap length c.in-Ok.ensures.items) }
 
 pub push_reserved-requires : goal.push_reserved-requires
 push_reserved-requires g c =

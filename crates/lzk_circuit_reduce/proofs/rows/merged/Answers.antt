@@ -6,8 +6,8 @@ use Rattle.lzk_circuit_reduce.proofs.rows.merged.Goals as goal
 
 pub loop-i-init : goal.loop-i-init
 loop-i-init g c = record {
-  so_far = subst (λ us. SoFar g.F.Field.ops c.args.left.now c.args.right.now us 0 0) (sym c.in_ok-sum.ensures.items) (merge-starts g.F.Field.ops g.F.Field.laws.ring c.args.left.now c.args.right.now);
-  room = omega (arith, c.in-Some.ensures, c.in_ok-sum.ensures.capacity);
+  so_far = subst (λ us. SoFar g.F.Field.ops c.args.left.now c.args.right.now us 0 0) (sym c.in-Ok.ensures.items) (merge-starts g.F.Field.ops g.F.Field.laws.ring c.args.left.now c.args.right.now);
+  room = omega (arith, c.in-Some.ensures, c.in-Ok.ensures.capacity);
 }
 
 pub push_next-from_left-requires-after_bounds : goal.push_next-from_left-requires-after_bounds
@@ -29,21 +29,21 @@ loop-i-preserved g c = record {
 
 pub returns-clause-row : goal.returns-clause-row
 returns-clause-row g c width h k =
-    subst (IsRow g.F.Field.ops width) (sym (two-tails c.loop-i.sum.items c.args.left.now c.args.right.now c.extend_from_slice.new.self.items c.extend_from_slice-2.new.self.items c.loop-i.i c.loop-i.j c.in_ok-extend_from_slice.ensures.items c.in_ok-extend_from_slice-2.ensures.items)) (merge-row g.F.Field.ops g.F.Field.laws.ring width c.args.left.now c.args.right.now c.loop-i.sum.items c.loop-i.i c.loop-i.j
+    subst (IsRow g.F.Field.ops width) (sym (two-tails c.loop-i.sum.items c.args.left.now c.args.right.now c.extend_from_slice.new.self.items c.extend_from_slice-2.new.self.items c.loop-i.i c.loop-i.j c.in-Ok-extend_from_slice.ensures.items c.in-Ok-extend_from_slice-2.ensures.items)) (merge-row g.F.Field.ops g.F.Field.laws.ring width c.args.left.now c.args.right.now c.loop-i.sum.items c.loop-i.i c.loop-i.j
     (elim c.loop-i-test.branch [ then-loop-i-test+else-j-right w ↦ inr (omega arith) | else-loop-i-test w ↦ inl (omega arith) ]) c.loop-i.invariant.so_far h k)
 
 pub returns-clause-value : goal.returns-clause-value
 returns-clause-value g c below =
-    ap (row_value g.F.Field.ops below) (two-tails c.loop-i.sum.items c.args.left.now c.args.right.now c.extend_from_slice.new.self.items c.extend_from_slice-2.new.self.items c.loop-i.i c.loop-i.j c.in_ok-extend_from_slice.ensures.items c.in_ok-extend_from_slice-2.ensures.items) ∙ merge-value g.F.Field.ops g.F.Field.laws.ring below c.args.left.now c.args.right.now c.loop-i.sum.items c.loop-i.i c.loop-i.j c.loop-i.invariant.so_far
+    ap (row_value g.F.Field.ops below) (two-tails c.loop-i.sum.items c.args.left.now c.args.right.now c.extend_from_slice.new.self.items c.extend_from_slice-2.new.self.items c.loop-i.i c.loop-i.j c.in-Ok-extend_from_slice.ensures.items c.in-Ok-extend_from_slice-2.ensures.items) ∙ merge-value g.F.Field.ops g.F.Field.laws.ring below c.args.left.now c.args.right.now c.loop-i.sum.items c.loop-i.i c.loop-i.j c.loop-i.invariant.so_far
 
 pub returns-clause-short : goal.returns-clause-short
 returns-clause-short g c =
-    let all = two-tails c.loop-i.sum.items c.args.left.now c.args.right.now c.extend_from_slice.new.self.items c.extend_from_slice-2.new.self.items c.loop-i.i c.loop-i.j c.in_ok-extend_from_slice.ensures.items c.in_ok-extend_from_slice-2.ensures.items in
+    let all = two-tails c.loop-i.sum.items c.args.left.now c.args.right.now c.extend_from_slice.new.self.items c.extend_from_slice-2.new.self.items c.loop-i.i c.loop-i.j c.in-Ok-extend_from_slice.ensures.items c.in-Ok-extend_from_slice-2.ensures.items in
     omega (arith, ap length all, merge-short g.F.Field.ops g.F.Field.laws.ring c.args.left.now c.args.right.now c.loop-i.sum.items c.loop-i.i c.loop-i.j c.loop-i.invariant.so_far)
 
 pub returns-clause-under : goal.returns-clause-under
 returns-clause-under g c ns d h k =
-    subst (AreUnder ns d) (sym (two-tails c.loop-i.sum.items c.args.left.now c.args.right.now c.extend_from_slice.new.self.items c.extend_from_slice-2.new.self.items c.loop-i.i c.loop-i.j c.in_ok-extend_from_slice.ensures.items c.in_ok-extend_from_slice-2.ensures.items))
+    subst (AreUnder ns d) (sym (two-tails c.loop-i.sum.items c.args.left.now c.args.right.now c.extend_from_slice.new.self.items c.extend_from_slice-2.new.self.items c.loop-i.i c.loop-i.j c.in-Ok-extend_from_slice.ensures.items c.in-Ok-extend_from_slice-2.ensures.items))
     (merge-under g.F.Field.ops g.F.Field.laws.ring ns d c.args.left.now c.args.right.now c.loop-i.sum.items c.loop-i.i c.loop-i.j c.loop-i.invariant.so_far h k)
 
 smaller : (m n i j a b : ℕ) → i < m → j < n → 1 ≤ a + b → (m - (i + a)) + (n - (j + b)) < (m - i) + (n - j)
@@ -77,3 +77,9 @@ offset_bounds-right-j-2 g c = c.loop-i.invariant.so_far.right_part
 
 pub slice_bounds-extend_from_slice-start-2 : goal.slice_bounds-extend_from_slice-start-2
 slice_bounds-extend_from_slice-start-2 g c = c.loop-i.invariant.so_far.right_part
+
+pub slice_bounds-extend_from_slice-count : goal.slice_bounds-extend_from_slice-count
+slice_bounds-extend_from_slice-count g c = c.loop-i.invariant.so_far.left_part
+
+pub slice_bounds-extend_from_slice-count-2 : goal.slice_bounds-extend_from_slice-count-2
+slice_bounds-extend_from_slice-count-2 g c = c.loop-i.invariant.so_far.right_part

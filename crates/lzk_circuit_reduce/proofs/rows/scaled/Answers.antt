@@ -13,7 +13,7 @@ returns-then-is_zero-clause-value g c below =
     ap (row_value o below) c.new.ensures.items ∙ sym (ap (λ f. o.times f (row_value o below c.args.row.now)) z ∙ zero_times o g.F.Field.laws.ring (row_value o below c.args.row.now))
 
 pub loop-term-init : goal.loop-term-init
-loop-term-init g c = record { items = c.in_ok-multiple.ensures.items; room = omega (arith, c.in_ok-multiple.ensures.capacity) }
+loop-term-init g c = record { items = c.in-Ok.ensures.items; room = omega (arith, c.in-Ok.ensures.capacity) }
 
 pub push_reserved-requires : goal.push_reserved-requires
 push_reserved-requires g c =

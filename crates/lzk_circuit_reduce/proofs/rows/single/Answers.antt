@@ -28,12 +28,12 @@ pub returns-clause-value : goal.returns-clause-value
 returns-clause-value g c below =
     let o = g.F.Field.ops in
     let t = c.term_of.result in
-    ap (row_value o below) (c.push_reserved.ensures.items ∙ ap (λ us. us ++ t ∷ []) c.in_ok-row.ensures.items) ∙ g.F.Field.laws.ring.plus_zero (term_value o below t) ∙ c.term_of.ensures.value below
+    ap (row_value o below) (c.push_reserved.ensures.items ∙ ap (λ us. us ++ t ∷ []) c.in-Ok.ensures.items) ∙ g.F.Field.laws.ring.plus_zero (term_value o below t) ∙ c.term_of.ensures.value below
 
 pub returns-clause-short : goal.returns-clause-short
 returns-clause-short g c =
     let t = c.term_of.result in
-    short c.push_reserved.new.self.items (t ∷ []) (c.push_reserved.ensures.items ∙ ap (λ us. us ++ t ∷ []) c.in_ok-row.ensures.items) one-short
+    short c.push_reserved.new.self.items (t ∷ []) (c.push_reserved.ensures.items ∙ ap (λ us. us ++ t ∷ []) c.in-Ok.ensures.items) one-short
 
 pub returns-then-is_zero-clause-value : goal.returns-then-is_zero-clause-value
 returns-then-is_zero-clause-value g c below =
@@ -45,14 +45,14 @@ pub returns-clause-row : goal.returns-clause-row
 returns-clause-row g c width la lb =
     let o = g.F.Field.ops in
     let nz : c.term_of.result.coef ≢ o.zero = λ e. c.is_zero.ensures.no c.if-is_zero.false (sym c.term_of.ensures.coef ∙ e) in
-    subst (IsRow o width) (sym (c.push_reserved.ensures.items ∙ ap (λ us. us ++ c.term_of.result ∷ []) c.in_ok-row.ensures.items)) (row-of-one o width c.term_of.result c.term_of.ensures.wire c.term_of.ensures.order (c.term_of.ensures.width width la lb) nz)
+    subst (IsRow o width) (sym (c.push_reserved.ensures.items ∙ ap (λ us. us ++ c.term_of.result ∷ []) c.in-Ok.ensures.items)) (row-of-one o width c.term_of.result c.term_of.ensures.wire c.term_of.ensures.order (c.term_of.ensures.width width la lb) nz)
 
 pub returns-then-is_zero-clause-exact : goal.returns-then-is_zero-clause-exact
 returns-then-is_zero-clause-exact g c nonzero = absurd (nonzero (c.is_zero.ensures.yes c.if-is_zero.true))
 
 pub returns-clause-exact : goal.returns-clause-exact
-returns-clause-exact g c nonzero = c.push_reserved.ensures.items ∙ ap (λ us. us ++ c.term_of.result ∷ []) c.in_ok-row.ensures.items ∙ ap (λ t. t ∷ []) c.term_of.ensures.exact
+returns-clause-exact g c nonzero = c.push_reserved.ensures.items ∙ ap (λ us. us ++ c.term_of.result ∷ []) c.in-Ok.ensures.items ∙ ap (λ t. t ∷ []) c.term_of.ensures.exact
 
 pub returns-clause-under : goal.returns-clause-under
 returns-clause-under g c ns d la lb =
-    subst (AreUnder ns d) (sym (c.push_reserved.ensures.items ∙ ap (λ us. us ++ c.term_of.result ∷ []) c.in_ok-row.ensures.items)) (All-cons (IsUnder ns d) c.term_of.result [] (c.term_of.ensures.under ns d la lb) (All-nil (IsUnder ns d)))
+    subst (AreUnder ns d) (sym (c.push_reserved.ensures.items ∙ ap (λ us. us ++ c.term_of.result ∷ []) c.in-Ok.ensures.items)) (All-cons (IsUnder ns d) c.term_of.result [] (c.term_of.ensures.under ns d la lb) (All-nil (IsUnder ns d)))

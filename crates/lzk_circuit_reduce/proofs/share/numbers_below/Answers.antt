@@ -16,7 +16,7 @@ counted-more ns n k e each l = elim (cases_lt k n) [
 ]
 
 pub loop-i-init : goal.loop-i-init
-loop-i-init c = record { count = ap length c.in_ok-numbers.ensures.items; each = λ k l. absurd (omega (arith, l)); room = omega (arith, c.in_ok-numbers.ensures.capacity) }
+loop-i-init c = record { count = ap length c.in-Ok.ensures.items; each = λ k l. absurd (omega (arith, l)); room = omega (arith, c.in-Ok.ensures.capacity) }
 
 pub push_reserved-requires : goal.push_reserved-requires
 push_reserved-requires c = omega (arith, c.loop-i.invariant.count, c.loop-i.invariant.room, c.loop-i-test.true)

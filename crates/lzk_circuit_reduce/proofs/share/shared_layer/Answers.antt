@@ -12,12 +12,12 @@ none_kept-requires-after_bounds g c κs within = c.requires.some
 pub loop-g-init : goal.loop-g-init
 loop-g-init g c =
     let o = g.F.Field.ops in
-    let kept = c.in_ok-kept.kept in
-    let none = c.in_ok-kept.ensures in
+    let kept = c.in-Ok-none_kept.kept in
+    let none = c.in-Ok-none_kept.ensures in
     let below = c.as_slice-below.result.now in
     record {
-      shared = subst (Sharing o g.F.Field.coding.number c.args.layer.now below 0 0 kept) (sym c.in_ok-wires.ensures.items) (sharing-starts o g.F.Field.coding.number c.args.layer.now below kept none.table none.kept none.count none.terms);
-      room = omega (arith, c.in_ok-wires.ensures.capacity);
+      shared = subst (Sharing o g.F.Field.coding.number c.args.layer.now below 0 0 kept) (sym c.in-Ok.ensures.items) (sharing-starts o g.F.Field.coding.number c.args.layer.now below kept none.table none.kept none.count none.terms);
+      room = omega (arith, c.in-Ok.ensures.capacity);
     }
 
 pub push_reserved-requires : goal.push_reserved-requires
@@ -43,11 +43,11 @@ loop-g-preserved g c =
     let layer = c.args.layer.now in
     let below = c.as_slice-below.result.now in
     let is = c.deref.ensures.value in
-    let found = c.in_ok-end.ensures in
-    let taken = c.in_ok-wire.ensures in
-    let shared : Sharing o g.F.Field.coding.number layer below (c.loop-g.g + 1) c.in_ok-end.end c.wire_of.new.kept c.push_reserved.new.self.items =
-    subst (Sharing o g.F.Field.coding.number layer below (c.loop-g.g + 1) c.in_ok-end.end c.wire_of.new.kept) (sym c.push_reserved.ensures.items)
-    (sharing-adds o g.F.Field.coding.number layer below c.loop-g.g c.loop-g.start c.in_ok-end.end c.in_ok-wire.wire c.loop-g.kept c.wire_of.new.kept c.loop-g.wires.items c.deref.result.now
+    let found = c.in-Ok-wire_row.ensures in
+    let taken = c.in-Ok-wire_of.ensures in
+    let shared : Sharing o g.F.Field.coding.number layer below (c.loop-g.g + 1) c.in-Ok-wire_row.end c.wire_of.new.kept c.push_reserved.new.self.items =
+    subst (Sharing o g.F.Field.coding.number layer below (c.loop-g.g + 1) c.in-Ok-wire_row.end c.wire_of.new.kept) (sym c.push_reserved.ensures.items)
+    (sharing-adds o g.F.Field.coding.number layer below c.loop-g.g c.loop-g.start c.in-Ok-wire_row.end c.in-Ok-wire_of.wire c.loop-g.kept c.wire_of.new.kept c.loop-g.wires.items c.deref.result.now
     (record {
       end_is = found.end_is;
       is = λ width n. subst (IsRow o width) (sym is) (found.is width n);

@@ -12,7 +12,7 @@ pub loop-i-preserved : goal.loop-i-preserved
 loop-i-preserved c =
     let ws = c.args.wires.now in
     let i = c.loop-i.i in
-    c.in_ok-push.ensures ∙ ap (λ xs. xs ++ at c.args.numbers.now (get_or ws i 0) ∷ []) c.loop-i.invariant ∙ sym (moved-more c.args.numbers.now ws i 0 c.loop-i-test.true)
+    c.in-Ok-push.ensures ∙ ap (λ xs. xs ++ at c.args.numbers.now (get_or ws i 0) ∷ []) c.loop-i.invariant ∙ sym (moved-more c.args.numbers.now ws i 0 c.loop-i-test.true)
 
 pub returns : goal.returns
 returns c =

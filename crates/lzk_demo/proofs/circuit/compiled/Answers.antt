@@ -6,4 +6,4 @@ use Rattle.lzk_demo.proofs.circuit.compiled.Goals as goal
 
 pub returns-clause-memory : goal.returns-clause-memory
 returns-clause-memory c =
-    memory_out c.compile_code.result (source_limit (demo_tree c.args.n)) (limits_kept c.args.n c.requires.some c.requires.few) (c.compile_code.ensures.fault (demo_tree c.args.n) c.in_ok-code.ensures)
+    memory_out c.compile_code.result (source_limit (demo_tree c.args.n)) (limits_kept c.args.n c.requires.some c.requires.few) (c.compile_code.ensures.fault (demo_tree c.args.n) c.in-Ok.ensures)

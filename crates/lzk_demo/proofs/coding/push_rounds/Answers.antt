@@ -10,20 +10,20 @@ use Rattle.lzk_demo.proofs.coding.push_rounds.Goals as goal
 pub loop-alloc-smaller : goal.loop-alloc-smaller
 loop-alloc-smaller c =
     let es = c.loop-alloc.entries.items in
-    fewer c.loop-alloc.made es c.in_ok-list.list.items (c.in_ok-list.ensures.list ∙ ap (paired c.loop-alloc.made) c.deref.ensures.value) (omega (arith, c.len.ensures))
+    fewer c.loop-alloc.made es c.in-Ok.list.items (c.in-Ok.ensures.list ∙ ap (paired c.loop-alloc.made) c.deref.ensures.value) (omega (arith, c.len.ensures))
 
 pub loop-alloc-preserved : goal.loop-alloc-preserved
 loop-alloc-preserved c =
     let es = c.loop-alloc.entries.items in
     let k = c.loop-alloc.made in
-    let ds = c.in_ok-list.list.items in
+    let ds = c.in-Ok.list.items in
     let old = c.loop-alloc.words.items in
     let new = c.push_round.new.words.items in
-    let list : ds ≡ paired k es = c.in_ok-list.ensures.list ∙ ap (paired k) c.deref.ensures.value in
+    let list : ds ≡ paired k es = c.in-Ok.ensures.list ∙ ap (paired k) c.deref.ensures.value in
     let h = c.loop-alloc.invariant in
     let long : c.len-in-loop-alloc.result ≡ length es = c.len-in-loop-alloc.ensures ∙ c.loop-alloc.entries.ok.0 in
     let more : (ss : List Statement) → AreWordsOf ss old → AreWordsOf (ss ++ round_lets k es) new =
-    λ ss is. subst (λ (l : List Entry). AreWordsOf (ss ++ round_lets k l) new) c.deref.ensures.value (c.in_ok-list.ensures.lets ss is) in
+    λ ss is. subst (λ (l : List Entry). AreWordsOf (ss ++ round_lets k l) new) c.deref.ensures.value (c.in-Ok.ensures.lets ss is) in
     record {
       some = some_left k es ds list h.some;
       few = omega (arith, same_sum k es ds list, h.few, long);
