@@ -2,6 +2,7 @@
 
 ghost use Rattle.std.specs.Prelude.{◌≡◌, ◌+◌, ◌≤◌, ◌↔◌, length, IfOk, IsTrue};
 ghost use Rattle.lzk_poly.specs.Extension.{Reach};
+ghost use Rattle.lzk_poly.specs.Spacings.{IsSpaced};
 ghost use Rattle.lzk_poly.specs.Weights.{IsEven, IsInverseTable, IsPassed, IsWeights};
 
 use crate::factors::{Products, Running, inverse_table, inverted_products, running_products};
@@ -51,6 +52,25 @@ impl<F: Field> Model for Weights<F> {
         × (IsTrue w.even ↔ IsEven F.ops F.coding.element w.upto) };
 }
 
+// The weights of these points, and what goes with them.
+fn weights_of<F: Field>(alloc: Global, points: &Points<'_, F>) -> Result<Weights<F>, AllocError>
+    requires some { 1 ≤ points.now.given }
+    requires spaced { IsSpaced F.ops F.coding.element points.now.upto points.now.spacing }
+    ensures { IfOk result (λ w. w ≡ record { count = points.now.given; upto = points.now.upto }) }
+{
+    let weights = points.weights(alloc)?;
+    let passed = points.passed_products(alloc)?;
+    let inverses = inverse_table(alloc, &points.products)?;
+    Ok(Weights {
+        weights,
+        passed,
+        inverses,
+        even: points.spacing.is_even(),
+        count: points.given,
+        upto: points.upto,
+    })
+}
+
 impl<F: Field> Weights<F> {
     /// The weights of the first `n` points, and what goes with them for the points below `upto`.
     ///
@@ -85,17 +105,7 @@ impl<F: Field> Weights<F> {
                 inverted: &inverted,
             },
         };
-        let weights = points.weights(alloc)?;
-        let passed = points.passed_products(alloc)?;
-        let inverses = inverse_table(alloc, &points.products)?;
-        Ok(Weights {
-            weights,
-            passed,
-            inverses,
-            even: spacing.is_even(),
-            count: n,
-            upto,
-        })
+        weights_of(alloc, &points)
     }
 
     /// How many values are extended.

@@ -6,6 +6,7 @@ ghost use Rattle.lzk_poly.specs.Extension.{AreFurther, IsExtension, IsInterpolat
 ghost use Rattle.lzk_poly.specs.Weights.{parts, quotient_sum};
 
 use crate::barycentric::Weights;
+use crate::lists::set_all;
 use crate::quotients::{fill_block, inverse_of};
 use lzk_field::Field;
 use std::alloc::{AllocError, Global};
@@ -177,9 +178,7 @@ impl<'a, F: Field> Row<'a, F> {
         ensures { (k : ℕ) → k < length out.new
             → entry F.ops out.new k ≡ extension F.ops F.coding.element self.now.values.now (from + k) }
     {
-        for k in 0..out.len() {
-            out[k] = F::zero();
-        }
+        set_all(F::zero(), out);
         let mut start = 0;
         while start < self.values.len() {
             let rest = self.values.len() - start;

@@ -22,6 +22,7 @@ mod even;
 mod extender;
 mod factors;
 mod laws;
+mod lists;
 mod other;
 mod polynomial;
 mod quotients;

@@ -2,7 +2,7 @@
 use Rattle.std.proofs.Common.{◌≡◌, ℕ, ◌+◌, ◌*◌, ◌<◌, ◌≤◌, List, ◌∷◌, ◌++◌, length, map, take, drop, get_or, sym, ap, ◌∙◌, arith, append_assoc}
 use Rattle.std.proofs.lemmas.List.{map-append, take-append-drop, take_at}
 use Rattle.std.proofs.lemmas.Slice.{take-put_mid}
-use Rattle.std.proofs.Math.Nat.{mul-le-mul_left}
+use Rattle.std.proofs.Math.Nat.{mul-le-mul_left, mul-le-mul_right}
 use borrow.Rule.Slice.PartMut.{put_mid}
 use Rattle.lzk_field.specs.Bytes.{elements_bytes, bytes_of}
 use Rattle.lzk_field.proofs.ByteForms.{length-bytes_of, elements_bytes-append, elements_bytes-more}
@@ -54,3 +54,16 @@ element_written number width i w k es e out new lt room is same written before =
     let wanted : elements_bytes width (map number (take (i + 1) es)) ≡ take (i * width) out ++ new =
     elements_bytes-more width number es i e lt is ∙ ap (λ xs. elements_bytes width (map number (take i es)) ++ xs) (sym written) ∙ ap (λ xs. xs ++ new) (sym before) in
     ap (λ s. take ((i + 1) * width) (put_mid s k out new)) start ∙ here ∙ sym wanted
+
+-- where the bytes of element i of n stand, each width being that of an element
+pub element_stands : (i n width w v size : ℕ) → i < n → size ≡ n * width → w ≡ width → v ≡ width → (i * w + width ≡ (i + 1) * v) × ((i + 1) * v ≤ size)
+element_stands i n width w v size below room first second =
+    let start : i * w ≡ i * width = ap (λ x. i * x) first in
+    let end : (i + 1) * v ≡ (i + 1) * width = ap (λ x. (i + 1) * x) second in
+    let next : i + 1 ≤ n = omega (arith, below) in
+    let inside : (i + 1) * width ≤ n * width = mul-le-mul_right width next in
+    (omega (arith, start, end), omega (arith, end, inside, room))
+
+-- so many elements fit a block
+pub elements_fit : (n w : ℕ) → n ≤ 64 → w ≤ 16 → n * w ≤ 1024
+elements_fit n w few small = let most : n * w ≤ 64 * w = mul-le-mul_right w few in omega (arith, most, small)

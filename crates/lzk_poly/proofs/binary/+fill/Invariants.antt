@@ -1,4 +1,4 @@
 use Rattle.lzk_poly.proofs.binary.+fill.Given as goal
 
 abbrev pub decreases-fill : goal.decreases-fill
-decreases-fill g l = l.block.now.bits
+decreases-fill g l = l.bits

@@ -1,29 +1,17 @@
-use Rattle.std.proofs.Common.{◌≡◌, ℕ, ◌^◌, ◌≤◌, ◌↔◌, ◌∙◌, length, refl, ap, sym, subst, arith}
+use Rattle.std.proofs.Common.{◌≤◌, ◌∙◌, length, ap, sym, subst, arith, ℕ}
 use Rattle.std.proofs.Math.Pow.{pow_mono}
 use Rattle.lzk_field.specs.Ring.{Ops}
 use Rattle.lzk_poly.specs.Products.{factor, IsInverted, IsRunning}
 use Rattle.lzk_poly.specs.Spacings.{IsSpaced, size_of}
-use Rattle.lzk_poly.specs.Weights.{IsEven}
 use Rattle.lzk_poly.specs.declared.spacing.Spacing.{Spacing}
 use Rattle.lzk_poly.specs.declared.spacing.Spacing.TheVariants.{Even, Binary, Other}
 use Rattle.lzk_poly.proofs.barycentric.Weights.new.Goals as goal
 
--- what holds of each spacing
-module _ {A : Type 0} (o : Ops A) (point : ℕ → A) (upto : ℕ) where
-  size_few : (s : Spacing) → upto ≤ 65536 → IsSpaced o point upto s → size_of s upto ≤ 65536
-  size_few Even limit h = limit
-  size_few (Binary bits) limit h = pow_mono {i = bits} {j = 16} h.0
-  size_few Other limit h = limit
-
-  size_enough : (s : Spacing) → IsSpaced o point upto s → upto ≤ size_of s upto
-  size_enough Even h = omega arith
-  size_enough (Binary bits) h = h.1
-  size_enough Other h = omega arith
-
-  is_even : (s : Spacing) → IsSpaced o point upto s → (s ≡ Even) ↔ IsEven o point upto
-  is_even Even h = (λ _. h, λ _. refl)
-  is_even (Binary bits) h = (λ e. absurd cc, λ even. absurd (h.4 even))
-  is_even Other h = (λ e. absurd cc, λ even. absurd (h.0 even))
+-- the differences of points of each spacing have few numbers
+size_few : {A : Type 0} (o : Ops A) (point : ℕ → A) (upto : ℕ) (s : Spacing) → upto ≤ 65536 → IsSpaced o point upto s → size_of s upto ≤ 65536
+size_few o point upto Even limit h = limit
+size_few o point upto (Binary bits) limit h = pow_mono {i = bits} {j = 16} h.0
+size_few o point upto Other limit h = limit
 
 pub size-size-requires : goal.size-size-requires
 size-size-requires g c = size_few g.F.Field.ops g.F.Field.coding.element c.args.upto c.of-spacing.result c.requires.limit c.of-spacing.ensures
@@ -55,21 +43,11 @@ invariant_of-points g c =
 pub invariant_of-points-2 : goal.invariant_of-points-2
 invariant_of-points-2 g c = record { order = omega (arith, c.requires.order); limit = c.requires.limit; enough = c.size-size.ensures.value }
 
-pub invariant_of-result : goal.invariant_of-result
-invariant_of-result g c =
-    let o = g.F.Field.ops in
-    let point = g.F.Field.coding.element in
-    let s = c.of-spacing.result in
-    let even = is_even o point c.args.upto s c.of-spacing.ensures in (
-      c.requires.some,
-      c.requires.order,
-      c.requires.limit,
-      c.in_ok-weights.ensures,
-      c.in_ok-passed.ensures,
-      omega (arith, size_enough o point c.args.upto s c.of-spacing.ensures, c.size-size.ensures.value, c.in_ok-inverses.ensures.0),
-      c.in_ok-inverses.ensures.1,
-      (λ yes. even.0 (c.is_even.ensures.0 yes), λ h. c.is_even.ensures.1 (even.1 h)),
-    )
+pub weights_of-requires-clause-some : goal.weights_of-requires-clause-some
+weights_of-requires-clause-some g c κs within = c.requires.some
+
+pub weights_of-requires-clause-spaced : goal.weights_of-requires-clause-spaced
+weights_of-requires-clause-spaced g c κs within = c.of-spacing.ensures
 
 pub returns : goal.returns
-returns g c = refl
+returns g c = c.weights_of.ensures

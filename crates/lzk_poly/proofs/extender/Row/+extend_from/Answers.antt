@@ -1,4 +1,4 @@
-use Rattle.std.proofs.Common.{◌≡◌, ℕ, ◌+◌, ◌<◌, length, ap, ◌∙◌, arith, refl, slice_set, get_or-set_same}
+use Rattle.std.proofs.Common.{◌≡◌, ℕ, ◌+◌, length, ap, ◌∙◌, arith, slice_set, get_or-set_same}
 use Rattle.std.proofs.Math.ListN.{length-set}
 use Rattle.lzk_field.specs.Sums.{entry}
 use Rattle.lzk_field.proofs.EntryLaws.{entries_joined}

@@ -45,17 +45,8 @@ loop-t-preserved g c =
       λ k p q. get_or-set_other out t k c.mul.result o.zero (omega arith) ∙ c.loop-t.invariant.1 k (omega arith) (omega (arith, length-set out t c.mul.result)),
     )
 
-pub loop-k-preserved : goal.loop-k-preserved
-loop-k-preserved g c =
-    let o = g.F.Field.ops in
-    let out = c.loop-k.out in
-    let k = c.loop-k.k in
-    let zero = c.zero.result in
-    below_more (λ i. entry o (slice_set out k zero) i ≡ o.zero) k (λ i h. get_or-set_other out k i zero o.zero (omega (arith, h)) ∙ c.loop-k.invariant i h)
-    (get_or-set_same out k zero o.zero (omega (arith, c.loop-k-test.true, c.loop-k.auto.out)) ∙ c.zero.ensures)
-
 pub loop-start-init : goal.loop-start-init
-loop-start-init g c = (omega arith, λ k h. c.loop-k.invariant k (omega (arith, h, c.loop-k-test.false, c.loop-k.auto.out)))
+loop-start-init g c = (omega arith, λ k h. c.set_all.ensures k h ∙ c.zero.ensures)
 
 pub loop-start-preserved : goal.loop-start-preserved
 loop-start-preserved g c =
@@ -75,13 +66,10 @@ pub add_parts-requires-clause-within : goal.add_parts-requires-clause-within
 add_parts-requires-clause-within g c κs within = omega (arith, length-take c.min-size.result c.loop-start.room, c.min-size.ensures, c.loop-start.invariant.0)
 
 pub add_parts-requires-clause-further : goal.add_parts-requires-clause-further
-add_parts-requires-clause-further g c κs within = (c.requires.further.0, omega (arith, c.requires.further.1, c.loop-start.auto.out, c.loop-k.auto.out))
+add_parts-requires-clause-further g c κs within = (c.requires.further.0, omega (arith, c.requires.further.1, c.loop-start.auto.out, c.set_all.auto.out))
 
 pub returns : goal.returns
 returns g c = λ k h. c.loop-t.invariant.0 k (omega (arith, h, c.loop-t-test.false, c.loop-t.auto.out))
-
-pub loop-k-init : goal.loop-k-init
-loop-k-init g c = λ i h. absurd (omega (arith, h))
 
 pub loop-start-smaller : goal.loop-start-smaller
 loop-start-smaller g c = omega (arith, c.loop-start-test.true, c.min-size.ensures, c.requires.room, c.loop-start.auto.room)
@@ -91,8 +79,8 @@ overflow_sub-first g c = omega (arith, c.count.ensures.value, c.requires.further
 
 pub bounds-passed-first : goal.bounds-passed-first
 bounds-passed-first g c =
-    omega (arith, c.passed-passed.ensures.0, c.count.ensures.value, c.requires.further.0, c.requires.further.1, c.loop-t-test.true, c.loop-start.auto.out, c.loop-k.auto.out)
+    omega (arith, c.passed-passed.ensures.0, c.count.ensures.value, c.requires.further.0, c.requires.further.1, c.loop-t-test.true, c.loop-start.auto.out, c.set_all.auto.out)
 
 pub offset_bounds-passed-first : goal.offset_bounds-passed-first
 offset_bounds-passed-first g c =
-    omega (arith, c.passed-passed.ensures.0, c.count.ensures.value, c.requires.further.0, c.requires.further.1, c.loop-t-test.true, c.loop-start.auto.out, c.loop-k.auto.out)
+    omega (arith, c.passed-passed.ensures.0, c.count.ensures.value, c.requires.further.0, c.requires.further.1, c.loop-t-test.true, c.loop-start.auto.out, c.set_all.auto.out)

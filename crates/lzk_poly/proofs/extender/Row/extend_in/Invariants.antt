@@ -4,9 +4,6 @@ use Rattle.lzk_poly.specs.Extension.{extension}
 use Rattle.lzk_poly.specs.Weights.{parts}
 use Rattle.lzk_poly.proofs.extender.Row.extend_in.Given as goal
 
-abbrev pub invariant-loop-k : goal.invariant-loop-k
-invariant-loop-k g l = let o = g.F.Field.ops in (i : ℕ) → i < l.k → entry o l.out i ≡ o.zero
-
 abbrev pub invariant-loop-start : goal.invariant-loop-start
 invariant-loop-start g l =
     let m = g.F.Field in

@@ -1,6 +1,6 @@
 use Rattle.std.proofs.Common.{◌≡◌, ◌∙◌, arith, slice_set, get_or-set_other, get_or-set_same, below_more}
 use Rattle.lzk_field.specs.Sums.{entry}
-use Rattle.lzk_poly.proofs.binary.set_all.Goals as goal
+use Rattle.lzk_poly.proofs.lists.set_all.Goals as goal
 
 pub loop-i-preserved : goal.loop-i-preserved
 loop-i-preserved g c =
