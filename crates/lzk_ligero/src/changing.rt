@@ -1,7 +1,7 @@
 //! Changes of answers.
 
 ghost use Rattle.lzk_profile.specs.Profile.{opened_count};
-ghost use Rattle.std.specs.Prelude.{◌≡◌, ◌-◌, ◌<◌, List, length, take, drop};
+ghost use Rattle.std.specs.Prelude.{◌≡◌, ◌-◌, ◌<◌, List, length, take, drop, ⊤};
 ghost use Rattle.lzk_layout.specs.Proofs.{HasLengths};
 ghost use Rattle.lzk_ligero_answers.specs.Answers.{changed};
 ghost use Rattle.lzk_ligero_proof.specs.Answered.{Answers, AreSent};
@@ -12,9 +12,10 @@ ghost use Rattle.lzk_ligero.specs.Changes.{change_of, IsChangeOf};
 use lzk_field::Field;
 use lzk_layout::{Elements, Plan, Proof};
 use lzk_ligero_proof::Answer;
+use std::alloc::AllocError;
 
 /// What is added to which value of which answer.
-#[derive(Clone, Copy)]
+#[derive(Copy)]
 pub(crate) struct Change<F> {
     /// The answer.
     pub(crate) answer: Answer,
@@ -22,6 +23,16 @@ pub(crate) struct Change<F> {
     pub(crate) place: u32,
     /// What is added.
     pub(crate) by: F,
+}
+
+impl<F: Copy> Clone for Change<F> {
+    ghost is_clone = { λ change copy. copy ≡ change };
+
+    ghost is_infallible = { λ _. ⊤ };
+
+    fn clone(&self) -> Result<Change<F>, AllocError> {
+        Ok(*self)
+    }
 }
 
 // Adds to one of these values.

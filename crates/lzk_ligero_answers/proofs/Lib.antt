@@ -6,3 +6,4 @@ pub mod PlaceLaws
 pub mod RowLaws
 pub mod StandLaws
 pub mod TableLaws
+pub mod Within

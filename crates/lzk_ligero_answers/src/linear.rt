@@ -10,7 +10,7 @@ ghost use Rattle.lzk_ligero_answers.specs.Coefficients.{AreCoefficients, AreExte
 ghost use Rattle.lzk_ligero_answers.specs.Rows.{IsTableOf};
 
 use crate::rows::{FACTORS, add_list, add_products, clear, multiply_list, row_of, set_list};
-use crate::table::{Combined, Extending, Factors, Further, Given, Listed, Placed, Product, Table};
+use crate::table::{Combined, Extending, Given};
 use lzk_field::Field;
 use lzk_layout::BLINDS;
 use lzk_poly::RowExtend;
@@ -35,21 +35,23 @@ fn extend_behind<F: Field, X: RowExtend<F>>(
     behind: &mut [F],
     room: &mut [F],
 )
-    requires values { length values.old ≡ given.now.extending.now.table.params.now.block }
-    requires behind { length behind.old + given.now.extending.now.table.params.now.block
-        ≡ given.now.extending.now.table.params.now.dblock }
+    requires values { length values.old ≡ given.now.extending.now.combined.now.table.now.params.now.block }
+    requires behind { length behind.old + given.now.extending.now.combined.now.table.now.params.now.block
+        ≡ given.now.extending.now.combined.now.table.now.params.now.dblock }
     requires room { X.rooms given.now.extending.now.extender.now ≤ length room.old }
     ensures behind { length behind.new ≡ length behind.old }
     ensures room { length room.new ≡ length room.old }
     ensures given { (list : List F)
-        → AreCoefficients F.ops given.now.extending.now.table.params.now (entry F.ops given.now.coefficients.now) list
+        → AreCoefficients F.ops given.now.extending.now.combined.now.table.now.params.now
+        (entry F.ops given.now.coefficients.now) list
         → values.new ≡ list }
     ensures further { (list : List F)
-        → AreCoefficients F.ops given.now.extending.now.table.params.now (entry F.ops given.now.coefficients.now) list
+        → AreCoefficients F.ops given.now.extending.now.combined.now.table.now.params.now
+        (entry F.ops given.now.coefficients.now) list
         → (k : ℕ)
         → k < length behind.old
         → entry F.ops behind.new k
-        ≡ extension F.ops F.coding.element list (given.now.extending.now.table.params.now.block + k) }
+        ≡ extension F.ops F.coding.element list (given.now.extending.now.combined.now.table.now.params.now.block + k) }
     ensures values { length values.new ≡ length values.old }
 {
     fill_row(given.coefficients, values);
@@ -65,18 +67,18 @@ fn extend_coefficients<F: Field, X: RowExtend<F>>(
     row: &mut [F],
     room: &mut [F],
 )
-    requires row { length row.old ≡ given.now.extending.now.table.params.now.dblock }
+    requires row { length row.old ≡ given.now.extending.now.combined.now.table.now.params.now.dblock }
     requires room { X.rooms given.now.extending.now.extender.now ≤ length room.old }
     ensures row { length row.new ≡ length row.old }
     ensures room { length room.new ≡ length room.old }
     ensures values { (list : List F)
-        → AreCoefficients F.ops given.now.extending.now.table.params.now (entry F.ops given.now.coefficients.now) list
+        → AreCoefficients F.ops given.now.extending.now.combined.now.table.now.params.now
+        (entry F.ops given.now.coefficients.now) list
         → (k : ℕ)
-        → k < given.now.extending.now.table.params.now.dblock
+        → k < given.now.extending.now.combined.now.table.now.params.now.dblock
         → entry F.ops row.new k ≡ extension F.ops F.coding.element list k }
 {
-    let extending = given.extending;
-    let params = extending.table.params;
+    let params = given.extending.combined.table.params;
     let (values, behind) = row.split_at_mut(params.block as usize);
     extend_behind(given, values, behind, room);
 }
@@ -84,52 +86,51 @@ fn extend_coefficients<F: Field, X: RowExtend<F>>(
 // Adds, at each point, the value of a row of coefficients times what is given there. The first DBLOCK entries of
 // `room`, and then the extender's, are room.
 fn add_extended<F: Field, X: RowExtend<F>>(
-    product: &Product<'_, '_, '_, '_, F, X>,
+    given: &Given<'_, '_, '_, F, X>,
+    values: &[F],
     room: &mut [F],
     answer: &mut [F],
 )
-    requires room { let e = product.now.given.extending.now in
-        X.rooms e.extender.now + e.table.params.now.dblock ≤ length room.old }
-    requires answer { length answer.old ≡ product.now.given.extending.now.table.params.now.dblock }
+    requires values { length values.now ≡ given.now.extending.now.combined.now.table.now.params.now.dblock }
+    requires room { let e = given.now.extending.now in
+        X.rooms e.extender.now + e.combined.now.table.now.params.now.dblock ≤ length room.old }
+    requires answer { length answer.old ≡ given.now.extending.now.combined.now.table.now.params.now.dblock }
     ensures room { length room.new ≡ length room.old }
     ensures answer { length answer.new ≡ length answer.old }
     ensures values { let o = F.ops in
-        let given = product.now.given in
-        let p = given.extending.now.table.params.now in
-        (list : List F) → AreCoefficients o p (entry o given.coefficients.now) list → (k : ℕ) → k < p.dblock
+        let p = given.now.extending.now.combined.now.table.now.params.now in
+        (list : List F) → AreCoefficients o p (entry o given.now.coefficients.now) list → (k : ℕ) → k < p.dblock
         → entry o answer.new k
         ≡ o.plus (entry o answer.old k)
-        (o.times (extension o F.coding.element list k) (entry o product.now.values.now k)) }
+        (o.times (extension o F.coding.element list k) (entry o values.now k)) }
 {
-    let given = &product.given;
-    let extending = given.extending;
-    let params = extending.table.params;
+    let params = given.extending.combined.table.params;
     let (row, rest) = room.split_at_mut(params.dblock as usize);
     extend_coefficients(given, row, rest);
-    multiply_list(row, product.values);
+    multiply_list(row, values);
     add_list(answer, row);
 }
 
 // The values from point BLOCK on of the polynomials of the factors' rows of place factors, one row after another.
 // `values` is room, of BLOCK elements.
 fn extend_factors<F: Field, X: RowExtend<F>>(
-    placed: &Placed<'_, '_, '_, F, X>,
+    extending: &Extending<'_, F, X>,
     values: &mut [F],
     behind: &mut [F],
     room: &mut [F],
 )
-    requires values { length values.old ≡ placed.now.extending.now.table.params.now.block }
-    requires behind { let p = placed.now.extending.now.table.params.now in
+    requires values { length values.old ≡ extending.now.combined.now.table.now.params.now.block }
+    requires behind { let p = extending.now.combined.now.table.now.params.now in
         length behind.old ≡ 4 * (p.dblock - p.block) }
-    requires room { X.rooms placed.now.extending.now.extender.now ≤ length room.old }
+    requires room { X.rooms extending.now.extender.now ≤ length room.old }
     ensures values { length values.new ≡ length values.old }
     ensures behind { length behind.new ≡ length behind.old }
     ensures room { length room.new ≡ length room.old }
-    ensures further { let p = placed.now.extending.now.table.params.now in
-        AreExtended F.ops F.coding.element p placed.now.place_factors.now behind.new }
+    ensures further { let p = extending.now.combined.now.table.now.params.now in
+        AreExtended F.ops F.coding.element p extending.now.combined.now.place_factors.now behind.new }
 {
-    let (extending, place_factors) = (placed.extending, placed.place_factors);
-    let params = extending.table.params;
+    let place_factors = extending.combined.place_factors;
+    let params = extending.combined.table.params;
     let wr = params.wr as usize;
     let size = (params.dblock - params.block) as usize;
     for f in 0..FACTORS {
@@ -147,11 +148,14 @@ fn extend_factors<F: Field, X: RowExtend<F>>(
 // Adds the products of rows that are given by factors: for each factor, the sum of the rows' multiples, times the
 // values of the row of place factors. These are zeros at the first points, then the place factors, and then what is
 // given behind them.
-fn add_factored<F: Field>(given: &Further<'_, '_, '_, '_, '_, F>, answer: &mut [F])
-    requires answer { length answer.old ≡ given.now.factors.now.table.now.params.now.dblock }
+fn add_factored<F: Field>(factors: &Combined<'_, F>, behind: &[F], answer: &mut [F])
+    requires count { let p = factors.now.table.now.params.now in length behind.now ≡ 4 * (p.dblock - p.block) }
+    requires behind { let f = factors.now in
+        AreExtended F.ops F.coding.element f.table.now.params.now f.place_factors.now behind.now }
+    requires answer { length answer.old ≡ factors.now.table.now.params.now.dblock }
     ensures answer { length answer.new ≡ length answer.old }
     ensures values { let o = F.ops in
-        let f = given.now.factors.now in
+        let f = factors.now in
         let t = f.table.now in
         (lists : ℕ → List F) → AreFactored o t.params.now f.rows 4 f.row_factors.now f.place_factors.now lists
         → (k : ℕ) → k < t.params.now.dblock
@@ -159,38 +163,38 @@ fn add_factored<F: Field>(given: &Further<'_, '_, '_, '_, '_, F>, answer: &mut [
         ≡ o.plus (entry o answer.old k) (sum_below o f.rows (λ i.
         o.times (extension o F.coding.element (lists (3 + i)) k) (entry o t.values.now ((3 + i) * t.width + k)))) }
 {
-    let factors = given.factors;
     let block = factors.table.params.block as usize;
     let (front, further) = answer.split_at_mut(block);
     let (_, elements) = front.split_at_mut(BLINDS);
     add_products(factors, BLINDS, factors.place_factors, elements);
-    add_products(factors, block, given.behind, further);
+    add_products(factors, block, behind, further);
 }
 
 // Adds the products of the rows whose coefficients are listed, and these.
 fn add_listed<F: Field, X: RowExtend<F>>(
-    listed: &Listed<'_, '_, '_, F, X>,
+    extending: &Extending<'_, F, X>,
     room: &mut [F],
     answer: &mut [F],
 )
-    requires room { let e = listed.now.extending.now in
-        X.rooms e.extender.now + e.table.params.now.dblock ≤ length room.old }
-    requires answer { length answer.old ≡ listed.now.extending.now.table.params.now.dblock }
+    requires room { let e = extending.now in
+        X.rooms e.extender.now + e.combined.now.table.now.params.now.dblock ≤ length room.old }
+    requires answer { length answer.old ≡ extending.now.combined.now.table.now.params.now.dblock }
     ensures room { length room.new ≡ length room.old }
     ensures answer { length answer.new ≡ length answer.old }
     ensures values { let o = F.ops in
-        let t = listed.now.extending.now.table in
+        let c = extending.now.combined.now in
+        let t = c.table.now in
         let p = t.params.now in
-        let m = listed.now.rows in
-        (lists : ℕ → List F) → AreListed o p m listed.now.coefficients.now lists → (k : ℕ) → k < p.dblock
+        let m = c.rows in
+        (lists : ℕ → List F) → AreListed o p m c.listed.now lists → (k : ℕ) → k < p.dblock
         → entry o answer.new k
         ≡ o.plus (entry o answer.old k) (sum_below o (p.nrow - 3 - m) (λ i.
         o.times (extension o F.coding.element (lists (3 + (m + i))) k)
         (entry o t.values.now ((3 + (m + i)) * t.width + k)))) }
 {
-    let extending = listed.extending;
-    let (m, coefficients) = (listed.rows, listed.coefficients);
-    let table = &extending.table;
+    let combined = extending.combined;
+    let (m, coefficients) = (combined.rows, combined.listed);
+    let table = combined.table;
     let params = table.params;
     let wr = params.wr as usize;
     let size = params.dblock as usize;
@@ -201,8 +205,7 @@ fn add_listed<F: Field, X: RowExtend<F>>(
             extending,
             coefficients: row,
         };
-        let product = Product { given, values };
-        add_extended(&product, room, answer);
+        add_extended(&given, values, room, answer);
     }
 }
 
@@ -237,37 +240,11 @@ pub fn linear_by_factors_into<'a, F: Field, X: RowExtend<F>>(
 {
     let rows = combined.table;
     let (params, table, width) = (rows.params, rows.values, rows.width);
-    let extending = Extending {
-        table: Table {
-            params,
-            values: table,
-            width,
-        },
-        extender,
-    };
+    let extending = Extending { combined, extender };
     let (behind, rest) = room.split_at_mut(FACTORS * (params.dblock - params.block) as usize);
     let values = &mut answer[..params.block as usize];
-    let placed = Placed {
-        extending: &extending,
-        place_factors: combined.place_factors,
-    };
-    extend_factors(&placed, values, behind, rest);
+    extend_factors(&extending, values, behind, rest);
     set_list(answer, row_of(table, width, 1, params.dblock as usize));
-    let factors = Factors {
-        table: &extending.table,
-        rows: combined.rows,
-        row_factors: combined.row_factors,
-        place_factors: combined.place_factors,
-    };
-    let given = Further {
-        factors: &factors,
-        behind,
-    };
-    add_factored(&given, answer);
-    let listed = Listed {
-        extending: &extending,
-        rows: combined.rows,
-        coefficients: combined.listed,
-    };
-    add_listed(&listed, room, answer);
+    add_factored(combined, behind, answer);
+    add_listed(&extending, room, answer);
 }

@@ -4,7 +4,7 @@ ghost use Rattle.lzk_profile.specs.Profile.{most_rows};
 ghost use Rattle.std.specs.Prelude.{◌≡◌, ℕ, ◌+◌, ◌*◌, ◌<◌, ◌≤◌, length};
 ghost use Rattle.lzk_field.specs.Sums.{entry, sum_below};
 
-use crate::table::Factors;
+use crate::table::Combined;
 use lzk_field::Field;
 use lzk_layout::MOST_ROWS;
 
@@ -179,7 +179,7 @@ fn factored_at<F: Field>(gathered: &Gathered<'_, '_, '_, F>, k: usize) -> F
 // Adds, at each point from point `from` on, what is given there for each of four factors times the sum of the factor's
 // multiples of rows' values, from row 3 on. A column is gathered once for all factors.
 pub(crate) fn add_products<F: Field>(
-    factors: &Factors<'_, '_, '_, F>,
+    factors: &Combined<'_, F>,
     from: usize,
     values: &[F],
     out: &mut [F],

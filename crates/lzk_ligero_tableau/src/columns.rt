@@ -52,19 +52,27 @@ fn set_word(word: u128, out: &mut [u8])
     out.copy_from_slice(&word.to_le_bytes());
 }
 
+// The nonce that two words are.
+fn nonce_of(low: u128, high: u128) -> [u8; 32]
+    ensures { result ≡ bytes_of 16 low ++ bytes_of 16 high }
+{
+    let mut nonce = [0u8; 32];
+    let (first, second) = nonce.split_at_mut(16);
+    set_word(low, first);
+    set_word(high, second);
+    nonce
+}
+
 /// The nonce of column `j`.
 pub(crate) fn column_nonce<F: Field, W: Words>(given: &Given<F, W>, j: u32) -> [u8; 32]
     requires column { j < given.now.plan.now.params.mcol }
     ensures { result ≡ nonce_at (low_words (W.at given.now.words.now)) given.now.plan.now.params j }
 {
-    let first = nonces_first(given) + 2 * u64::from(j);
     let mut pair = [0u128; 2];
-    given.words.fill(first, &mut pair);
-    let mut nonce = [0u8; 32];
-    let (low, high) = nonce.split_at_mut(16);
-    set_word(pair[0], low);
-    set_word(pair[1], high);
-    nonce
+    given
+        .words
+        .fill(nonces_first(given) + 2 * u64::from(j), &mut pair);
+    nonce_of(pair[0], pair[1])
 }
 
 /// The nonce of column `j`.
@@ -92,17 +100,6 @@ fn column_digest<F: Field, W: Words>(given: &Given<F, W>, rows: &[F], j: u32) ->
     };
     read_column(&table, j, column);
     leaf(&column_nonce(given, j), column)
-}
-
-// The nonce that two words are.
-fn nonce_of(low: u128, high: u128) -> [u8; 32]
-    ensures { result ≡ bytes_of 16 low ++ bytes_of 16 high }
-{
-    let mut nonce = [0u8; 32];
-    let (first, second) = nonce.split_at_mut(16);
-    set_word(low, first);
-    set_word(high, second);
-    nonce
 }
 
 // The nonces of four columns, whose words are made together.

@@ -3,7 +3,7 @@
 ghost use Rattle.std.specs.Prelude.{◌≡◌, ℕ, ◌+◌, ◌-◌, ◌*◌, ◌^◌, ◌<◌, ◌≤◌, length};
 ghost use Rattle.lzk_field.specs.Sums.{entry, sum_below};
 ghost use Rattle.lzk_ligero_tableau.specs.Filled.{element_row};
-ghost use Rattle.lzk_ligero_tableau.specs.Tableau.{low_words, random, randoms, row0, row1, row2, row0_words, row1_words, row2_words, rows_words, nonce_words};
+ghost use Rattle.lzk_ligero_tableau.specs.Tableau.{low_words, random, randoms, row0, row1, row2, row1_words, row2_words, rows_words, nonce_words};
 
 use crate::given::Given;
 use lzk_field::{Field, Words};
@@ -50,20 +50,12 @@ pub(crate) fn clear<F: Field>(list: &mut [F])
     }
 }
 
-// The number of row 0's first word.
-fn row0_first<F: Field, W>(given: &Given<F, W>) -> u64
-    ensures first { result ≡ row0_words given.now.plan.now.params }
-    ensures few { result ≤ 100000 }
-{
-    u64::from(given.plan.params.nsum)
-}
-
-// That of row 1.
+// The number of row 1's first word.
 fn row1_first<F: Field, W>(given: &Given<F, W>) -> u64
     ensures first { result ≡ row1_words given.now.plan.now.params }
     ensures few { result ≤ 200000 }
 {
-    row0_first(given) + u64::from(given.plan.params.block)
+    u64::from(given.plan.params.nsum) + u64::from(given.plan.params.block)
 }
 
 // That of row 2.
@@ -106,7 +98,7 @@ pub(crate) fn set_row0<F: Field, W: Words>(given: &Given<F, W>, values: &mut [F]
     requires room { length values.old ≡ given.now.plan.now.params.block }
     ensures { values.new ≡ row0 F.ops F.coding (low_words (W.at given.now.words.now)) given.now.plan.now.params }
 {
-    set_random(given.words, row0_first(given), values);
+    set_random(given.words, u64::from(given.plan.params.nsum), values);
 }
 
 /// The values of row 1.

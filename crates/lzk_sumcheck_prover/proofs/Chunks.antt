@@ -2,7 +2,7 @@
 use Rattle.std.specs.Prelude.{◌≡◌, ℕ, ◌+◌, ◌-◌, ◌*◌, ◌/◌, ◌%◌, ◌<◌, ◌≤◌, min}
 use Rattle.std.specs.Int.{div_ceil}
 use Rattle.std.proofs.Common.{suc, ap, ◌∙◌, arith, inl, inr}
-use Rattle.std.proofs.Math.Nat.{suc-mul, mul-le-mul_right}
+use Rattle.std.proofs.Math.Nat.{suc-mul, mul-le-mul_left, mul-le-mul_right}
 use Rattle.std.proofs.lemmas.Bool.{cases_lt, cases_eq}
 use Rattle.std.proofs.lemmas.Nat.{div-add-mod'}
 use Rattle.std.proofs.lemmas.Grind.{div_ceil_times}
@@ -100,6 +100,22 @@ shared rows parts half each some h is_half is_each =
     let own : 0 < each = rw is_each (some_each half parts (omega (arith, all, some)) h) in
     let held : half ≤ each * parts = rw is_each ((div_ceil_times half parts h).0) in
     (omega (arith, own), omega (arith, all, held))
+
+-- something, shared out and rounded up, is no more than it was
+few_each : (rows parts : ℕ) → 0 < parts → div_ceil rows parts ≤ rows
+few_each rows parts some =
+    elim (cases_lt rows (div_ceil rows parts)) [
+      | inl l ↦
+          let low : suc rows * parts ≤ div_ceil rows parts * parts = mul-le-mul_right parts l in
+          let whole : rows * 1 ≤ rows * parts = mul-le-mul_left rows some in
+          absurd (omega (arith, low, suc-mul rows parts, whole, (div_ceil_times rows parts some).1))
+      | inr ge ↦ ge
+    ]
+
+-- so twice a share of halves is hardly more than all
+pub share_short : (rows parts half each : ℕ) → 1 ≤ parts → half ≡ div_ceil rows 2 → each ≡ div_ceil half parts → 2 * each < rows + 2
+share_short rows parts half each some is_half is_each =
+    omega (arith, few_each half parts some, is_half, is_each, (div_ceil_times rows 2 (omega arith)).1)
 
 -- the same number, with the two before it
 pub twice : (q each : ℕ) → q * (2 * each) ≡ 2 * (q * each)

@@ -14,13 +14,13 @@ returns-clause-values g c lists are k h =
     let m = g.F.Field in
     let o = m.ops in
     let r = m.laws.ring in
-    let p = c.args.given.now.factors.now.table.now.params.now in
-    let b = c.args.given.now.factors.now.table.now.bounded in
-    let n = c.args.given.now.factors.now.rows in
-    let table = c.args.given.now.factors.now.table.now.values.now in
-    let width = c.args.given.now.factors.now.table.now.width in
-    let factors = c.args.given.now.factors.now.row_factors.now in
-    let places = c.args.given.now.factors.now.place_factors.now in
+    let p = c.args.factors.now.table.now.params.now in
+    let b = c.args.factors.now.table.now.bounded in
+    let n = c.args.factors.now.rows in
+    let table = c.args.factors.now.table.now.values.now in
+    let width = c.args.factors.now.table.now.width in
+    let factors = c.args.factors.now.row_factors.now in
+    let places = c.args.factors.now.place_factors.now in
     let answer = c.args.answer.now in
     let x = c.split_at_mut-front in
     let y = c.split_at_mut-elements in
@@ -58,10 +58,10 @@ returns-clause-values g c lists are k h =
     (λ d h.
     let at : p.block + d ≡ length (front ++ given) + d = omega arith in
     let step = p.dblock - p.block in
-    let value : ℕ → g.row.F.Denot = λ f. entry o c.args.given.now.behind.now (f * step + d) in
+    let value : ℕ → g.row.F.Denot = λ f. entry o c.args.behind.now (f * step + d) in
     products_added o r m.coding.element p n 4 factors places b.block lists are width p.block d (length (front ++ given) + d) table value (entry o answer (length (front ++ given) + d)) (entry o further d) at
-    (λ f z. c.args.given.now.are f (place_row o p places f) z (is f) d (omega arith) ∙ ap (extension o m.coding.element (place_row o p places f)) at)
+    (λ f z. c.requires.behind f (place_row o p places f) z (is f) d (omega arith) ∙ ap (extension o m.coding.element (place_row o p places f)) at)
     (c.add_products-2.ensures.sums d (omega arith)
-    ∙ ap (λ (size : ℕ). o.plus (entry o rest d) (sum_below o 4 (λ f. o.times (entry o c.args.given.now.behind.now (f * size + d)) (sum f (p.block + d))))) rest_size
+    ∙ ap (λ (size : ℕ). o.plus (entry o rest d) (sum_below o 4 (λ f. o.times (entry o c.args.behind.now (f * size + d)) (sum f (p.block + d))))) rest_size
     ∙ ap (λ w. o.plus w (sum_below o 4 (λ f. o.times (value f) (sum f (p.block + d))))) (entry-back o answer rest p.block d x.ensures.back ∙ ap (entry o answer) at)))
     k (omega (arith, length-append (front ++ given) further, first_size, further_size))

@@ -8,7 +8,7 @@ use Rattle.lzk_ligero_answers.proofs.linear.add_listed.Given as goal
 abbrev pub invariant-loop-t : goal.invariant-loop-t
 invariant-loop-t g l =
     let o = g.F.Field.ops in
-    let p = l.fn.listed.extending.now.table.params.now in
+    let p = l.fn.extending.combined.now.table.now.params.now in
     (length l.room ≡ length l.fn.room) × (length l.answer ≡ p.dblock)
-    × ((lists : ℕ → List g.row.F.Denot) → AreListed o p l.fn.listed.rows l.fn.listed.coefficients.now lists → (k : ℕ) → k < p.dblock → entry o l.answer k
-    ≡ o.plus (entry o l.fn.answer k) (sum_below o l.t (λ t. o.times (extension o g.F.Field.coding.element (lists (3 + (l.fn.listed.rows + t))) k) (cell o l.fn.listed.extending.now.table.width l.fn.listed.extending.now.table.values.now (3 + (l.fn.listed.rows + t)) k))))
+    × ((lists : ℕ → List g.row.F.Denot) → AreListed o p l.fn.extending.combined.now.rows l.fn.extending.combined.now.listed.now lists → (k : ℕ) → k < p.dblock → entry o l.answer k
+    ≡ o.plus (entry o l.fn.answer k) (sum_below o l.t (λ t. o.times (extension o g.F.Field.coding.element (lists (3 + (l.fn.extending.combined.now.rows + t))) k) (cell o l.fn.extending.combined.now.table.now.width l.fn.extending.combined.now.table.now.values.now (3 + (l.fn.extending.combined.now.rows + t)) k))))

@@ -10,8 +10,8 @@ pub returns-clause-values : goal.returns-clause-values
 returns-clause-values g c list are k h =
     let m = g.F.Field in
     let o = m.ops in
-    let p = c.args.given.now.extending.now.table.params.now in
-    let b = c.args.given.now.extending.now.table.bounded in
+    let p = c.args.given.now.extending.now.combined.now.table.now.params.now in
+    let b = c.args.given.now.extending.now.combined.now.table.now.bounded in
     let values = c.extend_behind.new.values in
     let same : values ≡ list = c.extend_behind.ensures.given list are in
     entries_joined o (λ k x. x ≡ extension o m.coding.element list k) values c.extend_behind.new.behind

@@ -9,11 +9,11 @@ pub loop-f-preserved : goal.loop-f-preserved
 loop-f-preserved g c =
     let m = g.F.Field in
     let o = m.ops in
-    let p = c.args.placed.now.extending.now.table.params.now in
+    let p = c.args.extending.now.combined.now.table.now.params.now in
     let l = c.loop-f in
     let f = l.f in
     let size = p.dblock - p.block in
-    let places = c.args.placed.now.place_factors.now in
+    let places = c.args.extending.now.combined.now.place_factors.now in
     let behind = l.behind in
     let start = f * size in
     let n = start + size - start in
@@ -44,9 +44,9 @@ loop-f-init g c = (c.requires.values, c.requires.behind, refl, λ f list h. absu
 
 pub row_of-places-requires-clause-inside : goal.row_of-places-requires-clause-inside
 row_of-places-requires-clause-inside g c κs within =
-    let p = c.args.placed.now.extending.now.table.params.now in
+    let p = c.args.extending.now.combined.now.table.now.params.now in
     let low : (c.loop-f.f + 1) * p.wr ≤ 4 * p.wr = mul-le-mul_right p.wr (omega (arith, c.loop-f-test.true)) in
-    omega (arith, low, c.args.placed.now.count)
+    omega (arith, low, c.args.extending.now.combined.now.by_place)
 
 pub invariant_of-given : goal.invariant_of-given
 invariant_of-given g c = record { count = c.row_of-places.ensures.size }
@@ -71,10 +71,10 @@ returns-clause-further g c = λ f list h. c.loop-f.invariant.3 f list (omega (ar
 
 pub extend_behind-requires-clause-behind : goal.extend_behind-requires-clause-behind
 extend_behind-requires-clause-behind g c κs within =
-    let p = c.args.placed.now.extending.now.table.params.now in
+    let p = c.args.extending.now.combined.now.table.now.params.now in
     let size = p.dblock - p.block in
     let low : (c.loop-f.f + 1) * size ≤ 4 * size = mul-le-mul_right size (omega (arith, c.loop-f-test.true)) in
-    let b = c.args.placed.now.extending.now.table.bounded in
+    let b = c.args.extending.now.combined.now.table.now.bounded in
     let start = c.loop-f.f * size in
     let fits : start + size ≤ length c.loop-f.behind = omega (arith, low, c.loop-f.invariant.1) in
     let n = start + size - start in
@@ -86,10 +86,10 @@ bytes-within l n s m h b = omega (arith, b, mul-le-mul_right {m = l} {n = n} s (
 
 pub offset_bounds-behind-start : goal.offset_bounds-behind-start
 offset_bounds-behind-start g c =
-    let p = c.args.placed.now.extending.now.table.params.now in
+    let p = c.args.extending.now.combined.now.table.now.params.now in
     let size = p.dblock - p.block in
     let low : (c.loop-f.f + 1) * size ≤ 4 * size = mul-le-mul_right size (omega (arith, c.loop-f-test.true)) in
-    let b = c.args.placed.now.extending.now.table.bounded in
+    let b = c.args.extending.now.combined.now.table.now.bounded in
     let start = c.loop-f.f * size in
     let inside : start < length c.args.behind.now = omega (arith, low, c.requires.behind, b.dblock, b.block, b.wide) in
     record { fits = bytes-within start (length c.args.behind.now) _ _ inside (omega arith) }
@@ -102,7 +102,23 @@ slice_bounds-row-start g c = omega arith
 
 pub slice_bounds-row-end : goal.slice_bounds-row-end
 slice_bounds-row-end g c =
-    let p = c.args.placed.now.extending.now.table.params.now in
+    let p = c.args.extending.now.combined.now.table.now.params.now in
     let size = p.dblock - p.block in
     let low : (c.loop-f.f + 1) * size ≤ 4 * size = mul-le-mul_right size (omega (arith, c.loop-f-test.true)) in
     omega (arith, low, c.loop-f.invariant.1)
+
+pub overflow_mul-start : goal.overflow_mul-start
+overflow_mul-start g c =
+    let p = c.args.extending.now.combined.now.table.now.params.now in
+    let size = p.dblock - p.block in
+    let low : (c.loop-f.f + 1) * size ≤ 4 * size = mul-le-mul_right size (omega (arith, c.loop-f-test.true)) in
+    let inside : c.loop-f.f * size + size ≤ length c.args.behind.now = omega (arith, low, c.requires.behind) in
+    omega arith
+
+pub overflow_add-row : goal.overflow_add-row
+overflow_add-row g c =
+    let p = c.args.extending.now.combined.now.table.now.params.now in
+    let size = p.dblock - p.block in
+    let low : (c.loop-f.f + 1) * size ≤ 4 * size = mul-le-mul_right size (omega (arith, c.loop-f-test.true)) in
+    let inside : c.loop-f.f * size + size ≤ length c.args.behind.now = omega (arith, low, c.requires.behind) in
+    omega arith

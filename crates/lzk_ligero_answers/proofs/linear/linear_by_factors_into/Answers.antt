@@ -23,13 +23,7 @@ returns-clause-values g c all lists count is factored listed =
     (c.add_listed.ensures.values lists listed k h))
 
 pub invariant_of-extending : goal.invariant_of-extending
-invariant_of-extending g c = let t = c.args.combined.now.table.now in record { bounded = t.bounded; inside = t.inside; wide = t.wide }
-
-pub invariant_of-extending-2 : goal.invariant_of-extending-2
-invariant_of-extending-2 g c = record { reach = c.requires.reach }
-
-pub invariant_of-placed : goal.invariant_of-placed
-invariant_of-placed g c = record { count = c.args.combined.now.by_place }
+invariant_of-extending g c = record { reach = c.requires.reach }
 
 pub row_of-requires-clause-inside : goal.row_of-requires-clause-inside
 row_of-requires-clause-inside g c κs within =
@@ -40,14 +34,11 @@ row_of-requires-clause-inside g c κs within =
 pub row_of-requires-clause-short : goal.row_of-requires-clause-short
 row_of-requires-clause-short g c κs within = c.args.combined.now.table.now.wide
 
-pub invariant_of-factors : goal.invariant_of-factors
-invariant_of-factors g c = let f = c.args.combined.now in record { few = f.few; by_row = f.by_row; by_place = f.by_place }
+pub add_factored-requires-clause-count : goal.add_factored-requires-clause-count
+add_factored-requires-clause-count g c κs within = c.extend_factors.ensures.behind ∙ c.split_at_mut-behind.ensures.front_len
 
-pub invariant_of-given : goal.invariant_of-given
-invariant_of-given g c = record { count = c.extend_factors.ensures.behind ∙ c.split_at_mut-behind.ensures.front_len; are = c.extend_factors.ensures.further }
-
-pub invariant_of-listed : goal.invariant_of-listed
-invariant_of-listed g c = let f = c.args.combined.now in record { few = f.few; count = f.count }
+pub add_factored-requires-clause-behind : goal.add_factored-requires-clause-behind
+add_factored-requires-clause-behind g c κs within = c.extend_factors.ensures.further
 
 pub returns-clause-answer : goal.returns-clause-answer
 returns-clause-answer g c = omega (arith, c.add_listed.ensures.answer, c.add_factored.ensures.answer, ap length c.set_list.ensures, c.row_of.ensures.size, c.requires.answer)

@@ -2,6 +2,7 @@ use Rattle.std.proofs.Common.{◌≡◌, ◌<◌, ℕ, length, refl, ap, ◌∙�
 use Rattle.std.proofs.lemmas.List.{get_or_default, get_or-set_other, length-set}
 use Rattle.lzk_field.specs.Sums.{entry}
 use Rattle.lzk_sumcheck.proofs.Filled.{filled_more}
+use Rattle.lzk_sumcheck.proofs.ProvingLaws.{times-less}
 use Rattle.lzk_ligero_answers.proofs.quadratic.add_multiple.Goals as goal
 
 pub loop-k-init : goal.loop-k-init
@@ -16,7 +17,7 @@ loop-k-preserved g c =
     let x = c.add.result in
     let within : l.k < length xs = omega (arith, c.loop-k-test.true, l.invariant.0) in
     let own : c.index-answer-k.result ≡ entry o old l.k = c.index-answer-k.is ∙ get_or_default xs l.k c.index-answer-k.result o.zero within ∙ l.invariant.2 l.k (omega arith) in
-    let z : c.index-z-k.result ≡ entry o c.args.z.now l.k = c.index-z-k.is ∙ get_or_default c.args.z.now l.k c.index-z-k.result o.zero (omega (arith, c.loop-k-test.true, c.requires)) in
+    let z : c.index-z-k.result ≡ entry o c.args.z.now l.k = c.index-z-k.is ∙ get_or_default c.args.z.now l.k c.index-z-k.result o.zero (omega (arith, c.loop-k-test.true, c.requires.z)) in
     let f : ℕ → g.row.F.Denot = λ k. o.plus (entry o old k) (o.times c.args.by (entry o c.args.z.now k)) in
     let is : x ≡ f l.k = c.add.ensures ∙ ap (λ w. o.plus w c.mul.result) own ∙ ap (o.plus (entry o old l.k)) (c.mul.ensures ∙ ap (o.times c.args.by) z) in (
       length-set xs l.k x ∙ l.invariant.0,
@@ -29,3 +30,21 @@ returns-clause-length g c = c.loop-k.invariant.0
 
 pub returns-clause-entries : goal.returns-clause-entries
 returns-clause-entries g c = λ k h. c.loop-k.invariant.1 k (omega (arith, h, c.loop-k-test.false, c.loop-k.invariant.0))
+
+pub offset_bounds-answer-k : goal.offset_bounds-answer-k
+offset_bounds-answer-k g c = record { fits = times-less c.loop-k.k (length c.args.answer.now) _ _ c.loop-k-test.true (omega arith) }
+
+pub bounds-answer-k : goal.bounds-answer-k
+bounds-answer-k g c = omega (arith, c.loop-k-test.true, c.loop-k.auto.answer)
+
+pub offset_bounds-answer-k-in-loop-k : goal.offset_bounds-answer-k-in-loop-k
+offset_bounds-answer-k-in-loop-k g c = record { fits = times-less c.loop-k.k (length c.args.answer.now) _ _ c.loop-k-test.true (omega arith) }
+
+pub bounds-answer-k-in-loop-k : goal.bounds-answer-k-in-loop-k
+bounds-answer-k-in-loop-k g c = omega (arith, c.loop-k-test.true, c.loop-k.auto.answer)
+
+pub offset_bounds-z-k : goal.offset_bounds-z-k
+offset_bounds-z-k g c = omega (arith, c.loop-k-test.true, c.requires.z)
+
+pub bounds-z-k : goal.bounds-z-k
+bounds-z-k g c = omega (arith, c.loop-k-test.true, c.requires.z)

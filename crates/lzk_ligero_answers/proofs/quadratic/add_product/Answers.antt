@@ -2,6 +2,7 @@ use Rattle.std.proofs.Common.{◌≡◌, ◌<◌, ℕ, length, refl, ap, ◌∙�
 use Rattle.std.proofs.lemmas.List.{get_or_default, get_or-set_other, length-set}
 use Rattle.lzk_field.specs.Sums.{entry}
 use Rattle.lzk_sumcheck.proofs.Filled.{filled_more}
+use Rattle.lzk_sumcheck.proofs.ProvingLaws.{times-less}
 use Rattle.lzk_ligero_answers.proofs.quadratic.add_product.Goals as goal
 
 pub loop-k-init : goal.loop-k-init
@@ -31,3 +32,27 @@ returns-clause-length g c = c.loop-k.invariant.0
 
 pub returns-clause-entries : goal.returns-clause-entries
 returns-clause-entries g c = λ k h. c.loop-k.invariant.1 k (omega (arith, h, c.loop-k-test.false, c.loop-k.invariant.0))
+
+pub offset_bounds-answer-k : goal.offset_bounds-answer-k
+offset_bounds-answer-k g c = record { fits = times-less c.loop-k.k (length c.args.answer.now) _ _ c.loop-k-test.true (omega arith) }
+
+pub bounds-answer-k : goal.bounds-answer-k
+bounds-answer-k g c = omega (arith, c.loop-k-test.true, c.loop-k.auto.answer)
+
+pub offset_bounds-answer-k-in-loop-k : goal.offset_bounds-answer-k-in-loop-k
+offset_bounds-answer-k-in-loop-k g c = record { fits = times-less c.loop-k.k (length c.args.answer.now) _ _ c.loop-k-test.true (omega arith) }
+
+pub bounds-answer-k-in-loop-k : goal.bounds-answer-k-in-loop-k
+bounds-answer-k-in-loop-k g c = omega (arith, c.loop-k-test.true, c.loop-k.auto.answer)
+
+pub offset_bounds-x-k : goal.offset_bounds-x-k
+offset_bounds-x-k g c = omega (arith, c.loop-k-test.true, c.requires.x)
+
+pub bounds-x-k : goal.bounds-x-k
+bounds-x-k g c = omega (arith, c.loop-k-test.true, c.requires.x)
+
+pub offset_bounds-y-k : goal.offset_bounds-y-k
+offset_bounds-y-k g c = omega (arith, c.loop-k-test.true, c.requires.y)
+
+pub bounds-y-k : goal.bounds-y-k
+bounds-y-k g c = omega (arith, c.loop-k-test.true, c.requires.y)

@@ -57,3 +57,9 @@ add_multiple-requires-clause-z g c κs within = c.row_of-z.ensures.size ∙ sym 
 
 pub returns-clause-length : goal.returns-clause-length
 returns-clause-length g c = c.add_multiple.ensures.length ∙ c.add_product.ensures.length
+
+pub overflow_add-first : goal.overflow_add-first
+overflow_add-first g c = omega (arith, c.args.triple.now.few)
+
+pub overflow_add-first-2 : goal.overflow_add-first-2
+overflow_add-first-2 g c = omega (arith, c.args.triple.now.few)

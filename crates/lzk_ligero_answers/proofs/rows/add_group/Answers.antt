@@ -3,6 +3,7 @@ use Rattle.std.proofs.lemmas.List.{get_or_default, get_or-set_other, length-set}
 use Rattle.lzk_field.specs.Sums.{entry, sum_below}
 use Rattle.lzk_field.proofs.SumLaws.{sum-ext}
 use Rattle.lzk_sumcheck.proofs.Filled.{filled_more}
+use Rattle.lzk_sumcheck.proofs.ProvingLaws.{times-less}
 use Rattle.lzk_ligero_answers.proofs.rows.add_group.Goals as goal
 
 pub loop-k-preserved : goal.loop-k-preserved
@@ -47,3 +48,15 @@ gather-requires-clause-column g c κs within = omega (arith, c.loop-k-test.true,
 
 pub dot-requires : goal.dot-requires
 dot-requires g c = sym (c.gather.ensures.length ∙ c.loop-k.invariant.1)
+
+pub offset_bounds-out-k : goal.offset_bounds-out-k
+offset_bounds-out-k g c = record { fits = times-less c.loop-k.k (length c.args.out.now) _ _ c.loop-k-test.true (omega arith) }
+
+pub bounds-out-k : goal.bounds-out-k
+bounds-out-k g c = omega (arith, c.loop-k-test.true, c.loop-k.auto.out)
+
+pub offset_bounds-out-k-in-loop-k : goal.offset_bounds-out-k-in-loop-k
+offset_bounds-out-k-in-loop-k g c = record { fits = times-less c.loop-k.k (length c.args.out.now) _ _ c.loop-k-test.true (omega arith) }
+
+pub bounds-out-k-in-loop-k : goal.bounds-out-k-in-loop-k
+bounds-out-k-in-loop-k g c = omega (arith, c.loop-k-test.true, c.loop-k.auto.out)

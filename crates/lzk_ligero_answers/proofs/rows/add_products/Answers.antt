@@ -3,6 +3,7 @@ use Rattle.std.proofs.lemmas.List.{get_or_default, get_or-set_other, length-set}
 use Rattle.lzk_field.specs.Sums.{entry, sum_below}
 use Rattle.lzk_field.proofs.SumLaws.{sum-ext}
 use Rattle.lzk_sumcheck.proofs.Filled.{filled_more}
+use Rattle.lzk_sumcheck.proofs.ProvingLaws.{times-less}
 use Rattle.lzk_ligero_answers.proofs.rows.add_products.Goals as goal
 
 pub loop-k-preserved : goal.loop-k-preserved
@@ -60,3 +61,23 @@ invariant_of-gathered g c = record { by_row = omega (arith, c.args.factors.now.b
 
 pub factored_at-requires-clause-place : goal.factored_at-requires-clause-place
 factored_at-requires-clause-place g c κs within = c.loop-k-test.true
+
+pub offset_bounds-out-k : goal.offset_bounds-out-k
+offset_bounds-out-k g c = record { fits = times-less c.loop-k.k (length c.args.out.now) _ _ c.loop-k-test.true (omega arith) }
+
+pub bounds-out-k : goal.bounds-out-k
+bounds-out-k g c = omega (arith, c.loop-k-test.true, c.loop-k.auto.out)
+
+pub offset_bounds-out-k-in-loop-k : goal.offset_bounds-out-k-in-loop-k
+offset_bounds-out-k-in-loop-k g c = record { fits = times-less c.loop-k.k (length c.args.out.now) _ _ c.loop-k-test.true (omega arith) }
+
+pub bounds-out-k-in-loop-k : goal.bounds-out-k-in-loop-k
+bounds-out-k-in-loop-k g c = omega (arith, c.loop-k-test.true, c.loop-k.auto.out)
+
+pub split_at_mut-column-requires : goal.split_at_mut-column-requires
+split_at_mut-column-requires g c = omega (arith, c.args.factors.now.few, c.args.factors.now.table.now.bounded.nrow)
+
+pub overflow_add-from : goal.overflow_add-from
+overflow_add-from g c =
+    let inside : c.args.from + c.loop-k.k < c.args.factors.now.table.now.width = omega (arith, c.requires.short, c.loop-k-test.true) in
+    omega arith

@@ -1,6 +1,7 @@
-use Rattle.std.proofs.Common.{◌∙◌, refl, arith}
+use Rattle.std.proofs.Common.{◌∙◌, refl, arith, length}
 use Rattle.std.proofs.lemmas.List.{length-set}
 use Rattle.lzk_sumcheck.proofs.Filled.{filled_more}
+use Rattle.lzk_sumcheck.proofs.ProvingLaws.{times-less}
 use Rattle.lzk_ligero_answers.proofs.rows.clear.Goals as goal
 
 pub loop-k-init : goal.loop-k-init
@@ -17,3 +18,9 @@ returns-clause-length g c = c.loop-k.invariant.0
 
 pub returns-clause-entries : goal.returns-clause-entries
 returns-clause-entries g c = λ k h. c.loop-k.invariant.1 k (omega (arith, h, c.loop-k-test.false, c.loop-k.invariant.0))
+
+pub offset_bounds-list-k : goal.offset_bounds-list-k
+offset_bounds-list-k g c = record { fits = times-less c.loop-k.k (length c.args.list.now) _ _ c.loop-k-test.true (omega arith) }
+
+pub bounds-list-k : goal.bounds-list-k
+bounds-list-k g c = omega (arith, c.loop-k-test.true, c.loop-k.auto.list)

@@ -54,3 +54,21 @@ pub bounds-values-f : goal.bounds-values-f
 bounds-values-f g c =
     let t = c.args.gathered.now in
     omega (arith, mul-add-lt c.loop-f.f t.size c.args.k 4 (omega (arith, c.loop-f-test.true)) c.requires.place, t.by_place)
+
+pub overflow_mul-value : goal.overflow_mul-value
+overflow_mul-value g c =
+    let t = c.args.gathered.now in
+    let inside : c.loop-f.f * t.size + c.args.k < length t.values.now = omega (arith, mul-add-lt c.loop-f.f t.size c.args.k 4 (omega (arith, c.loop-f-test.true)) c.requires.place, t.by_place) in
+    omega arith
+
+pub overflow_add-value : goal.overflow_add-value
+overflow_add-value g c =
+    let t = c.args.gathered.now in
+    let inside : c.loop-f.f * t.size + c.args.k < length t.values.now = omega (arith, mul-add-lt c.loop-f.f t.size c.args.k 4 (omega (arith, c.loop-f-test.true)) c.requires.place, t.by_place) in
+    omega arith
+
+pub offset_bounds-values-f : goal.offset_bounds-values-f
+offset_bounds-values-f g c =
+    let t = c.args.gathered.now in
+    let inside : c.loop-f.f * t.size + c.args.k < length t.values.now = omega (arith, mul-add-lt c.loop-f.f t.size c.args.k 4 (omega (arith, c.loop-f-test.true)) c.requires.place, t.by_place) in
+    omega (arith, inside)

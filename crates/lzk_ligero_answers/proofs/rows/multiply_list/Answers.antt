@@ -2,6 +2,7 @@ use Rattle.std.proofs.Common.{◌≡◌, ◌<◌, ℕ, length, refl, ap, ◌∙�
 use Rattle.std.proofs.lemmas.List.{get_or_default, get_or-set_other, length-set}
 use Rattle.lzk_field.specs.Sums.{entry}
 use Rattle.lzk_sumcheck.proofs.Filled.{filled_more}
+use Rattle.lzk_sumcheck.proofs.ProvingLaws.{times-less}
 use Rattle.lzk_ligero_answers.proofs.rows.multiply_list.Goals as goal
 
 pub loop-k-init : goal.loop-k-init
@@ -29,3 +30,21 @@ returns-clause-length g c = c.loop-k.invariant.0
 
 pub returns-clause-entries : goal.returns-clause-entries
 returns-clause-entries g c = λ k h. c.loop-k.invariant.1 k (omega (arith, h, c.loop-k-test.false, c.loop-k.invariant.0))
+
+pub offset_bounds-list-k : goal.offset_bounds-list-k
+offset_bounds-list-k g c = record { fits = times-less c.loop-k.k (length c.args.list.now) _ _ c.loop-k-test.true (omega arith) }
+
+pub bounds-list-k : goal.bounds-list-k
+bounds-list-k g c = omega (arith, c.loop-k-test.true, c.loop-k.auto.list)
+
+pub offset_bounds-list-k-in-loop-k : goal.offset_bounds-list-k-in-loop-k
+offset_bounds-list-k-in-loop-k g c = record { fits = times-less c.loop-k.k (length c.args.list.now) _ _ c.loop-k-test.true (omega arith) }
+
+pub bounds-list-k-in-loop-k : goal.bounds-list-k-in-loop-k
+bounds-list-k-in-loop-k g c = omega (arith, c.loop-k-test.true, c.loop-k.auto.list)
+
+pub offset_bounds-values-k : goal.offset_bounds-values-k
+offset_bounds-values-k g c = omega (arith, c.loop-k-test.true, c.requires)
+
+pub bounds-values-k : goal.bounds-values-k
+bounds-values-k g c = omega (arith, c.loop-k-test.true, c.requires)

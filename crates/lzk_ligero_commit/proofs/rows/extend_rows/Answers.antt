@@ -93,3 +93,14 @@ returns-clause-rows g c =
     rw (← c.div_ceil-each.ensures) (λ i k hi hk.
     get_or_append_left ys c.split_at_mut-used.result.1.now f.ops.zero (place_in_chunks each p.ncol room i k) (omega (arith, place_inside f.ops e word p source.elements.now each room s.wide s.some i k hi hk, long, c.for_each_chunk_mut.auto.s))
     ∙ chunks_filled f.ops e word p source.elements.now each room s.wide s.some xs ys long (λ n h. let d = c.for_each_chunk_mut.ensures.chunks n h in (d.argument.now, (d.after_call.now, (d.argument_is, (d.left, d.call))))) i k hi hk)
+
+pub div_ceil-each-requires : goal.div_ceil-each-requires
+div_ceil-each-requires g c = omega (arith, c.args.crew.now.some)
+
+pub for_each_chunk_mut-requires-clause-size : goal.for_each_chunk_mut-requires-clause-size
+for_each_chunk_mut-requires-clause-size g c κs within =
+    let source = c.args.source.now in
+    let crew = c.args.crew.now in
+    let p = source.given.now.plan.now.params in
+    let s = shared p crew.workers source.room c.div_ceil-each.result c.div_ceil-of.result source.given.now.plan.now.bounded crew.some c.div_ceil-each.ensures c.div_ceil-of.ensures in
+    some_size p.nrow p.ncol c.div_ceil-each.result source.room s.wide s.some

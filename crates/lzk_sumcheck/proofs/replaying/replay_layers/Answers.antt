@@ -4,6 +4,7 @@ use Rattle.std.proofs.lemmas.Option.{slice_get-get_or}
 use Rattle.lzk_layout.specs.Places.{depth, bits_under, sent_at}
 use Rattle.lzk_sumcheck.specs.Script.{HasBits, zero_layer, layer_script, after_layer, after_layers}
 use Rattle.lzk_sumcheck.proofs.LayerLaws.{AreReplayed, replayed_none, replayed_more, replayed_whole}
+use Rattle.lzk_sumcheck.proofs.ProvingLaws.{times-less}
 use Rattle.lzk_sumcheck.proofs.replaying.replay_layers.Goals as goal
 
 pub loop-l-init : goal.loop-l-init
@@ -14,6 +15,20 @@ loop-l-init g c =
       within = λ h. c.first-places.ensures.within;
       layers = replayed_none f.ops f.coding c.args.messages.now c.args.circuit.now c.args.tape.now c.args.layers.now;
     }
+
+pub overflow_cast-first : goal.overflow_cast-first
+overflow_cast-first g c =
+    let places = c.loop-l.invariant.places in
+    let last = c.loop-l.invariant.within (subst (λ n. c.loop-l.l < n) c.depth-l-end.ensures.depth c.loop-l-test.true) in
+    omega (arith, ap (λ p. p.factors_sent) places, ap (λ p. p.messages) places, ap (λ p. p.bits) places, last.sent, c.requires.messages)
+
+pub overflow_cast-layer : goal.overflow_cast-layer
+overflow_cast-layer g c = omega (arith, c.requires.depth, c.depth-l-end.ensures.depth, c.loop-l-test.true)
+
+pub offset_bounds-layers-l : goal.offset_bounds-layers-l
+offset_bounds-layers-l g c =
+    let inside : c.loop-l.l < length c.args.layers.now = omega (arith, c.requires.depth, c.depth-l-end.ensures.depth, c.loop-l-test.true) in
+    record { fits = times-less c.loop-l.l (length c.args.layers.now) _ _ inside (omega arith) }
 
 pub bounds-layers-l : goal.bounds-layers-l
 bounds-layers-l g c = omega (arith, c.requires.depth, c.depth-l-end.ensures.depth, c.loop-l-test.true, c.loop-l.auto.layers)

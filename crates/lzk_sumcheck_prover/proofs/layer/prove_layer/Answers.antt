@@ -1,7 +1,7 @@
 use Rattle.std.proofs.Common.{◌≡◌, ◌+◌, ◌*◌, ◌^◌, ◌<◌, length, refl, ap, sym, ◌∙◌, ◌++◌, arith, subst}
 use Rattle.std.specs.Prelude.{List, None, map, slice_set}
 use Rattle.std.specs.List.{range_with_len, refill, length_refill}
-use Rattle.std.proofs.lemmas.List.{get_or_default, length-set, length-take}
+use Rattle.std.proofs.lemmas.List.{get_or_default, length-set, length-take, length-take-le}
 use Rattle.std.proofs.lemmas.Nat.{pow_pos}
 use Rattle.lzk_field.specs.Sums.{minus, entry}
 use Rattle.lzk_mle.specs.Multilinear.{eq, tilde}
@@ -197,3 +197,21 @@ pub write_pair-requires-after_bounds : goal.write_pair-requires-after_bounds
 write_pair-requires-after_bounds g c =
     let behind = c.split_at_mut-rounds.result.1.now in
     omega (arith, length-set (slice_set behind 0 c.sub.result) 1 c.sub-2.result, length-set behind 0 c.sub.result, c.split_at_mut-rounds.ensures.back_len, c.requires.room)
+
+pub split_at_mut-rounds-requires : goal.split_at_mut-rounds-requires
+split_at_mut-rounds-requires g c = omega (arith, c.requires.room)
+
+pub slice_bounds-send_rounds-end : goal.slice_bounds-send_rounds-end
+slice_bounds-send_rounds-end g c = sym (length-take-le (4 * c.args.layer.now.bits) c.args.layer.now.pads.now (omega (arith, c.args.layer.now.count)))
+
+pub offset_bounds-pads-count : goal.offset_bounds-pads-count
+offset_bounds-pads-count g c = omega (arith, c.args.layer.now.count)
+
+pub offset_bounds-pads-count-2 : goal.offset_bounds-pads-count-2
+offset_bounds-pads-count-2 g c = omega (arith, c.args.layer.now.count)
+
+pub bounds-factors-0 : goal.bounds-factors-0
+bounds-factors-0 g c = omega (arith, c.split_at_mut-rounds.ensures.back_len, c.requires.room)
+
+pub bounds-factors-1 : goal.bounds-factors-1
+bounds-factors-1 g c = omega (arith, length-set c.split_at_mut-rounds.result.1.now 0 c.sub.result, c.split_at_mut-rounds.ensures.back_len, c.requires.room)

@@ -90,3 +90,6 @@ returns g c =
 
 pub prove_list-requires-clause-messages : goal.prove_list-requires-clause-messages
 prove_list-requires-clause-messages g c κs within = c.requires.messages
+
+pub prove_list-requires-clause-point : goal.prove_list-requires-clause-point
+prove_list-requires-clause-point g c κs within = ap length c.as_mut_slice.ensures.value ∙ ap (λ (s : Script _). length s.out_point) c.script.view_is ∙ c.requires.shape.out_point

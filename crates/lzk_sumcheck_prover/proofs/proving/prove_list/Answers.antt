@@ -299,3 +299,22 @@ offset_bounds-messages-begin g c =
     let begins : c.loop-l.places.messages ≡ sent_at w l = ap (λ p. p.messages) c.loop-l.invariant.places in
     let inside : c.loop-l.places.messages < length c.args.messages.now = omega (arith, begins, ap (λ p. p.bits) c.loop-l.invariant.places, sent_within w l h, c.requires.messages) in
     record { fits = times-less c.loop-l.places.messages (length c.args.messages.now) _ _ inside (omega arith) }
+
+pub overflow_mul-count : goal.overflow_mul-count
+overflow_mul-count g c =
+    let h : c.loop-l.l < depth c.args.given.now.on.now.circuit.now = subst (λ (n : ℕ). c.loop-l.l < n) c.depth-depth.ensures.depth c.loop-l-test.true in
+    omega (arith, (c.loop-l.invariant.within h).bits)
+
+pub overflow_add-count : goal.overflow_add-count
+overflow_add-count g c =
+    let h : c.loop-l.l < depth c.args.given.now.on.now.circuit.now = subst (λ (n : ℕ). c.loop-l.l < n) c.depth-depth.ensures.depth c.loop-l-test.true in
+    omega (arith, (c.loop-l.invariant.within h).bits)
+
+pub overflow_add-sent : goal.overflow_add-sent
+overflow_add-sent g c =
+    let w = c.args.given.now.on.now.circuit.now in
+    let h : c.loop-l.l < depth c.args.given.now.on.now.circuit.now = subst (λ (n : ℕ). c.loop-l.l < n) c.depth-depth.ensures.depth c.loop-l-test.true in
+    let begins : c.loop-l.places.messages ≡ sent_at w c.loop-l.l = ap (λ p. p.messages) c.loop-l.invariant.places in
+    let inside : c.loop-l.places.messages + (4 * c.loop-l.places.bits + 2) ≤ length c.args.messages.now =
+    omega (arith, begins, ap (λ p. p.bits) c.loop-l.invariant.places, sent_within w c.loop-l.l h, c.requires.messages) in
+    omega arith

@@ -4,7 +4,7 @@ use Rattle.std.proofs.Math.Nat.{mul-div_cancel}
 use Rattle.lzk_field.specs.Sums.{sum_below}
 use Rattle.lzk_sumcheck_rounds.specs.Parts.{product_at, sums_in}
 use Rattle.lzk_sumcheck_rounds.specs.Rows.{row_at, round_at}
-use Rattle.lzk_sumcheck_prover.proofs.Chunks.{shared, few_chunks, chunks_enough, begins_used, cut, twice}
+use Rattle.lzk_sumcheck_prover.proofs.Chunks.{shared, share_short, few_chunks, chunks_enough, begins_used, cut, twice}
 use Rattle.lzk_sumcheck_rounds.proofs.PartLaws.{sums-chunk, parts-sum}
 use Rattle.lzk_sumcheck_prover.proofs.summing.sum_round.Goals as goal
 
@@ -86,3 +86,28 @@ div_ceil-count-requires g c =
     let n = length c.args.round.now.first.now in
     let share = shared n c.parts_of-parts.result c.div_ceil.result c.div_ceil-each.result c.args.round.now.matching.first c.parts_of-parts.ensures.some c.div_ceil.ensures c.div_ceil-each.ensures in
     omega (arith, share.0)
+
+pub overflow_mul-each : goal.overflow_mul-each
+overflow_mul-each g c =
+    let n = length c.args.round.now.first.now in
+    let short : 2 * c.div_ceil-each.result < n + 2 = share_short n c.parts_of-parts.result c.div_ceil.result c.div_ceil-each.result c.parts_of-parts.ensures.some c.div_ceil.ensures c.div_ceil-each.ensures in
+    omega arith
+
+pub overflow_mul-size : goal.overflow_mul-size
+overflow_mul-size g c =
+    let n = length c.args.round.now.first.now in
+    let short : 2 * c.div_ceil-each.result < n + 2 = share_short n c.parts_of-parts.result c.div_ceil.result c.div_ceil-each.result c.parts_of-parts.ensures.some c.div_ceil.ensures c.div_ceil-each.ensures in
+    omega arith
+
+pub overflow_add-size : goal.overflow_add-size
+overflow_add-size g c =
+    let n = length c.args.round.now.first.now in
+    let short : 2 * c.div_ceil-each.result < n + 2 = share_short n c.parts_of-parts.result c.div_ceil.result c.div_ceil-each.result c.parts_of-parts.ensures.some c.div_ceil.ensures c.div_ceil-each.ensures in
+    omega arith
+
+pub overflow_mul-count : goal.overflow_mul-count
+overflow_mul-count g c =
+    let n = length c.args.round.now.first.now in
+    let each = c.div_ceil-each.result in
+    let share = shared n c.parts_of-parts.result c.div_ceil.result each c.args.round.now.matching.first c.parts_of-parts.ensures.some c.div_ceil.ensures c.div_ceil-each.ensures in
+    omega (arith, few_chunks n (2 * each) share.0 c.parts_of-parts.result share.1, c.div_ceil-count.ensures, c.parts_of-parts.ensures.few)

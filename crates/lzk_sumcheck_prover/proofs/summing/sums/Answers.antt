@@ -1,5 +1,5 @@
-use Rattle.std.proofs.Common.{◌≡◌, ℕ, ◌+◌, ◌^◌, ◌≤◌, ◌∙◌, length, take, ap, arith, subst}
-use Rattle.std.proofs.lemmas.List.{length-take}
+use Rattle.std.proofs.Common.{◌≡◌, ℕ, ◌+◌, ◌^◌, ◌≤◌, ◌∙◌, length, take, ap, arith, subst, sym}
+use Rattle.std.proofs.lemmas.List.{length-take, length-take-le}
 use Rattle.lzk_sumcheck_rounds.specs.Rows.{round_at}
 use Rattle.lzk_sumcheck.specs.States.{State, bind_state, total}
 use Rattle.lzk_sumcheck_rounds.specs.Tables.{AreKept}
@@ -48,3 +48,15 @@ invariant_of-tables g c =
 
 pub returns-clause-same : goal.returns-clause-same
 returns-clause-same g c = c.tables.view_is
+
+pub slice_bounds-round-end : goal.slice_bounds-round-end
+slice_bounds-round-end g c = sym (length-take-le c.tables.inside.linear_count c.deref.result.now (omega (arith, c.tables.invariant.0.linear, ap length c.deref.ensures.value)))
+
+pub slice_bounds-round-end-2 : goal.slice_bounds-round-end-2
+slice_bounds-round-end-2 g c = sym (length-take-le c.tables.inside.first_count c.deref-2.result.now (omega (arith, c.tables.invariant.0.first, ap length c.deref-2.ensures.value)))
+
+pub slice_bounds-round-end-3 : goal.slice_bounds-round-end-3
+slice_bounds-round-end-3 g c = sym (length-take-le c.tables.inside.second_count c.deref-3.result.now (omega (arith, c.tables.invariant.0.second, ap length c.deref-3.ensures.value)))
+
+pub slice_bounds-round-end-4 : goal.slice_bounds-round-end-4
+slice_bounds-round-end-4 g c = sym (length-take-le c.tables.inside.pair_count c.deref-4.result.now (omega (arith, c.tables.invariant.0.pairs, ap length c.deref-4.ensures.value)))

@@ -6,6 +6,7 @@ use Rattle.lzk_field.specs.Ring.{Ops}
 use Rattle.lzk_field.specs.Sums.{minus, entry}
 use Rattle.lzk_mle.proofs.LoopStates.{IsBoundUpTo}
 use Rattle.lzk_sumcheck_rounds.specs.Pairs.{bound_entry}
+use Rattle.lzk_sumcheck.proofs.ProvingLaws.{times-less}
 use Rattle.lzk_sumcheck_rounds.proofs.kept.bind_table.Goals as goal
 
 -- one place more is bound
@@ -46,3 +47,9 @@ returns-clause-half g c = refl
 
 pub returns-clause-entries : goal.returns-clause-entries
 returns-clause-entries g c = λ i h. c.loop-i.invariant.1.low i (omega (arith, h, c.loop-i-test.false))
+
+pub offset_bounds-table-i : goal.offset_bounds-table-i
+offset_bounds-table-i g c = record { fits = times-less (2 * c.loop-i.i) (length c.args.table.now) _ _ (omega (arith, c.loop-i-test.true)) (omega arith) }
+
+pub offset_bounds-table-i-in-loop-i : goal.offset_bounds-table-i-in-loop-i
+offset_bounds-table-i-in-loop-i g c = record { fits = times-less c.loop-i.i (length c.args.table.now) _ _ (omega (arith, c.loop-i-test.true)) (omega arith) }

@@ -1,6 +1,7 @@
 use Rattle.std.proofs.Common.{◌≡◌, length, ap, arith}
 use Rattle.lzk_layout.specs.Places.{depth}
 use Rattle.lzk_sumcheck_rounds.proofs.OrderLaws.{orders_more, orders_whole}
+use Rattle.std.proofs.lemmas.Result.{IfOk-from_err}
 use Rattle.lzk_sumcheck_rounds.proofs.order.orders_of.Goals as goal
 
 pub loop-l-init : goal.loop-l-init
@@ -25,3 +26,9 @@ returns g c =
     let w = c.args.circuit.now in
     let all : c.loop-l.l ≡ depth w = omega (arith, c.depth-depth.ensures.depth, c.loop-l-test.false, c.loop-l.auto.l-end) in
     orders_whole w c.loop-l.l c.loop-l.list.items c.loop-l.invariant.so_far all
+
+pub returns-in_err-list : goal.returns-in_err-list
+returns-in_err-list g c = IfOk-from_err _ _ c.from_residual.ensures.0
+
+pub returns-in_err-order_at : goal.returns-in_err-order_at
+returns-in_err-order_at g c = IfOk-from_err _ _ c.from_residual-in_err-order_at.ensures.0

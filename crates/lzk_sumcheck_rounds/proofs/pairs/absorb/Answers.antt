@@ -1,5 +1,6 @@
 use Rattle.std.proofs.Common.{◌≤◌, ◌+◌, ◌-◌, length, arith}
 use Rattle.lzk_sumcheck_rounds.proofs.MergeLaws.{add_sums, add_within, push_sums, push_within, drop-set}
+use Rattle.lzk_sumcheck.proofs.ProvingLaws.{times-less}
 use Rattle.lzk_sumcheck_rounds.proofs.pairs.absorb.Goals as goal
 
 pub returns-then-last-p-2-clause-count : goal.returns-then-last-p-2-clause-count
@@ -49,3 +50,12 @@ bounds-pairs-kept-then-last-p-2 g c = omega (arith, c.requires, c.if-kept-gt0.tr
 
 pub bounds-pairs-kept-2 : goal.bounds-pairs-kept-2
 bounds-pairs-kept-2 g c = c.requires
+
+pub offset_bounds-pairs-kept : goal.offset_bounds-pairs-kept
+offset_bounds-pairs-kept g c = record { fits = times-less (c.args.kept - 1) (length c.args.pairs.now) _ _ (omega (arith, c.requires, c.if-kept-gt0.true)) (omega arith) }
+
+pub offset_bounds-pairs-kept-then-last-p-2 : goal.offset_bounds-pairs-kept-then-last-p-2
+offset_bounds-pairs-kept-then-last-p-2 g c = record { fits = times-less (c.args.kept - 1) (length c.args.pairs.now) _ _ (omega (arith, c.requires, c.if-kept-gt0.true)) (omega arith) }
+
+pub offset_bounds-pairs-kept-2 : goal.offset_bounds-pairs-kept-2
+offset_bounds-pairs-kept-2 g c = record { fits = times-less c.args.kept (length c.args.pairs.now) _ _ c.requires (omega arith) }

@@ -3,6 +3,7 @@ use Rattle.std.proofs.lemmas.List.{drop_all, length-map}
 use Rattle.lzk_field.proofs.RingBasics.{zero_plus}
 use Rattle.lzk_sumcheck_rounds.specs.Pairs.{bind_pair, spread, ArePairs}
 use Rattle.lzk_sumcheck_rounds.proofs.MergeLaws.{merged_more}
+use Rattle.lzk_sumcheck.proofs.ProvingLaws.{times-less}
 use Rattle.lzk_sumcheck_rounds.proofs.pairs.bind_pairs.Goals as goal
 
 pub loop-i-init : goal.loop-i-init
@@ -42,3 +43,12 @@ returns-clause-sums g c = λ a b.
 
 pub returns-clause-within : goal.returns-clause-within
 returns-clause-within g c = λ n m h. let w = c.loop-i.invariant.within n m h in w.0
+
+pub offset_bounds-pairs-i : goal.offset_bounds-pairs-i
+offset_bounds-pairs-i g c = record { fits = times-less c.loop-i.i (length c.args.pairs.now) _ _ c.loop-i-test.true (omega arith) }
+
+pub bounds-pairs-i : goal.bounds-pairs-i
+bounds-pairs-i g c = omega (arith, c.loop-i-test.true, c.loop-i.auto.pairs)
+
+pub absorb-kept-requires-after_bounds : goal.absorb-kept-requires-after_bounds
+absorb-kept-requires-after_bounds g c = omega (arith, c.loop-i-test.true, c.loop-i.auto.pairs, c.loop-i.invariant.count)

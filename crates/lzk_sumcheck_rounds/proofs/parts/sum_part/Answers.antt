@@ -4,6 +4,7 @@ use Rattle.std.proofs.lemmas.List.{get_or-take, get_or-drop, get_or_past}
 use Rattle.lzk_field.specs.Sums.{entry}
 use Rattle.lzk_sumcheck_rounds.specs.Rows.{row_at, round_at}
 use Rattle.lzk_sumcheck_rounds.proofs.PartLaws.{three-put, row-past, part-entries, part-sum}
+use Rattle.lzk_sumcheck.proofs.ProvingLaws.{times-less}
 use Rattle.lzk_sumcheck_rounds.proofs.parts.sum_part.Goals as goal
 
 pub set_rows_from-requires-clause-within : goal.set_rows_from-requires-clause-within
@@ -40,3 +41,24 @@ returns g c =
           (part-entries o r begin each n (entry o first) part width (λ i h. get_or-take long (drop (2 * begin) first) i o.zero (omega (arith, h, width, own)) ∙ get_or-drop (2 * begin) first i o.zero)
           (λ i past. get_or_past first i o.zero past));
     }
+
+pub split_at_mut-sums-requires : goal.split_at_mut-sums-requires
+split_at_mut-sums-requires g c = omega (arith, c.requires.part)
+
+pub set_rows_from-requires-clause-some : goal.set_rows_from-requires-clause-some
+set_rows_from-requires-clause-some g c = omega (arith, c.requires.begin, c.requires.some, c.requires.part, c.split_at_mut-sums.ensures.back_len)
+
+pub offset_bounds-round-from : goal.offset_bounds-round-from
+offset_bounds-round-from g c = omega (arith, c.requires.begin)
+
+pub slice_bounds-round_sums-count : goal.slice_bounds-round_sums-count
+slice_bounds-round_sums-count g c = omega arith
+
+pub offset_bounds-0 : goal.offset_bounds-0
+offset_bounds-0 g c = record { fits = times-less 0 (length c.split_at_mut-sums.result.0.now) _ _ (omega (arith, c.split_at_mut-sums.ensures.front_len)) (omega arith) }
+
+pub offset_bounds-1 : goal.offset_bounds-1
+offset_bounds-1 g c = record { fits = times-less 1 (length c.split_at_mut-sums.result.0.now) _ _ (omega (arith, c.split_at_mut-sums.ensures.front_len)) (omega arith) }
+
+pub offset_bounds-2 : goal.offset_bounds-2
+offset_bounds-2 g c = record { fits = times-less 2 (length c.split_at_mut-sums.result.0.now) _ _ (omega (arith, c.split_at_mut-sums.ensures.front_len)) (omega arith) }

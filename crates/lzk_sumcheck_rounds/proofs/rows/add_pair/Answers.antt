@@ -1,8 +1,9 @@
-use Rattle.std.proofs.Common.{◌==◌, cond, inl, inr, ap, ◌∙◌, sym}
+use Rattle.std.proofs.Common.{◌==◌, cond, inl, inr, ap, ◌∙◌, sym, length, arith}
 use Rattle.std.specs.Prelude.{slice_set}
 use Rattle.std.proofs.lemmas.Bool.{cases_eq, eq-eqb, ne_eqb}
 use Rattle.std.proofs.lemmas.List.{get_or_default, get_or-set_same, get_or-set_other}
 use Rattle.lzk_field.specs.Sums.{entry}
+use Rattle.lzk_sumcheck.proofs.ProvingLaws.{times-less}
 use Rattle.lzk_sumcheck_rounds.proofs.rows.add_pair.Goals as goal
 
 pub returns : goal.returns
@@ -23,3 +24,9 @@ returns g c = λ i.
       | inr d ↦
           get_or-set_other rows p.a i c.plus_product.result o.zero d ∙ sym (ap (λ b. o.plus (entry o rows i) (cond b y o.zero)) (ne_eqb i p.a d) ∙ m.laws.ring.plus_zero (entry o rows i))
     ]
+
+pub offset_bounds-rows-a : goal.offset_bounds-rows-a
+offset_bounds-rows-a g c = record { fits = times-less c.args.pair.a (length c.args.rows.now) _ _ c.requires.first (omega arith) }
+
+pub offset_bounds-rows-a-2 : goal.offset_bounds-rows-a-2
+offset_bounds-rows-a-2 g c = record { fits = times-less c.args.pair.a (length c.args.rows.now) _ _ c.requires.first (omega arith) }

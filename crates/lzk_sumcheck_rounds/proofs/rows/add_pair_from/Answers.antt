@@ -4,6 +4,7 @@ use Rattle.std.proofs.lemmas.Bool.{cases_eq, eq-eqb, ne_eqb}
 use Rattle.std.proofs.lemmas.List.{get_or_default, get_or-set_same, get_or-set_other}
 use Rattle.lzk_field.specs.Ring.{Ops, RingLaws}
 use Rattle.lzk_field.specs.Sums.{entry}
+use Rattle.lzk_sumcheck.proofs.ProvingLaws.{times-less}
 use Rattle.lzk_sumcheck_rounds.proofs.rows.add_pair_from.Goals.{else-a-from-via-then-a-from+else-a-from-2, else-a-from-via-else-a-from}
 use Rattle.lzk_sumcheck_rounds.proofs.rows.add_pair_from.Goals as goal
 
@@ -46,3 +47,9 @@ returns-else-a-from g c = λ i h.
       | else-a-from-via-else-a-from w ↦ λ q. omega (arith, q, w.if-a-from.false)
     ] in
     not-added o m.laws.ring c.args.rows.now c.args.from p.a i (o.times p.coef (entry o c.args.second.now p.b)) apart
+
+pub offset_bounds-rows-row : goal.offset_bounds-rows-row
+offset_bounds-rows-row g c = record { fits = times-less (c.args.pair.a - c.args.from) (length c.args.rows.now) _ _ c.if-a-from-2.true (omega arith) }
+
+pub offset_bounds-rows-row-then-a-from-2 : goal.offset_bounds-rows-row-then-a-from-2
+offset_bounds-rows-row-then-a-from-2 g c = record { fits = times-less (c.args.pair.a - c.args.from) (length c.args.rows.now) _ _ c.if-a-from-2.true (omega arith) }

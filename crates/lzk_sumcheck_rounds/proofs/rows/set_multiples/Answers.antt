@@ -1,9 +1,10 @@
-use Rattle.std.proofs.Common.{sym, ap, ◌∙◌, refl, arith}
+use Rattle.std.proofs.Common.{sym, ap, ◌∙◌, refl, arith, length}
 use Rattle.std.proofs.lemmas.List.{get_or_past, length-set}
 use native.Mathlib.Decide.{dec_lt}
 use Rattle.lzk_field.specs.Sums.{entry}
 use Rattle.lzk_field.proofs.RingBasics.{times_zero}
 use Rattle.lzk_sumcheck.proofs.Filled.{filled_more}
+use Rattle.lzk_sumcheck.proofs.ProvingLaws.{times-less}
 use Rattle.lzk_sumcheck_rounds.proofs.rows.set_multiples.Goals as goal
 
 pub loop-i-init : goal.loop-i-init
@@ -29,3 +30,9 @@ returns g c = λ k.
           get_or_past c.loop-i.rows k o.zero (omega (arith, inv.0, c.loop-i-test.false, l))
           ∙ sym (ap (o.times c.args.factor) (get_or_past c.args.list.now k o.zero (omega (arith, inv.0, c.loop-i-test.false, c.requires, l))) ∙ times_zero o m.laws.ring c.args.factor)
     ]
+
+pub offset_bounds-rows-i : goal.offset_bounds-rows-i
+offset_bounds-rows-i g c = record { fits = times-less c.loop-i.i (length c.args.rows.now) _ _ c.loop-i-test.true (omega arith) }
+
+pub bounds-rows-i : goal.bounds-rows-i
+bounds-rows-i g c = omega (arith, c.loop-i-test.true, c.loop-i.auto.rows)

@@ -1,7 +1,8 @@
-use Rattle.std.proofs.Common.{◌∙◌, refl, arith}
+use Rattle.std.proofs.Common.{◌∙◌, refl, arith, length}
 use Rattle.std.proofs.lemmas.List.{get_or_past, length-set}
 use native.Mathlib.Decide.{dec_lt}
 use Rattle.lzk_sumcheck.proofs.Filled.{filled_more}
+use Rattle.lzk_sumcheck.proofs.ProvingLaws.{times-less}
 use Rattle.lzk_sumcheck_rounds.proofs.rows.set_zeros.Goals as goal
 
 pub loop-i-init : goal.loop-i-init
@@ -20,3 +21,9 @@ returns g c = λ k.
       | yes l ↦ inv.1 k l
       | no l ↦ get_or_past c.loop-i.rows k g.F.Field.ops.zero (omega (arith, inv.0, c.loop-i-test.false, l))
     ]
+
+pub offset_bounds-rows-i : goal.offset_bounds-rows-i
+offset_bounds-rows-i g c = record { fits = times-less c.loop-i.i (length c.args.rows.now) _ _ c.loop-i-test.true (omega arith) }
+
+pub bounds-rows-i : goal.bounds-rows-i
+bounds-rows-i g c = omega (arith, c.loop-i-test.true, c.loop-i.auto.rows)

@@ -3,6 +3,7 @@ use Rattle.std.proofs.lemmas.List.{get_or_default, get_or_past}
 use native.Mathlib.Decide.{dec_lt}
 use Rattle.lzk_field.specs.Sums.{entry}
 use Rattle.lzk_sumcheck.proofs.Filled.{IsFilled, filled_more}
+use Rattle.lzk_sumcheck.proofs.ProvingLaws.{times-less}
 use Rattle.lzk_sumcheck_rounds.proofs.terms.pad_values.Goals.{then-i-values, else-i-values}
 use Rattle.lzk_sumcheck_rounds.proofs.terms.pad_values.Goals as goal
 
@@ -33,3 +34,15 @@ returns g c = λ k.
           get_or_past c.loop-i.table k zero (omega (arith, c.loop-i.auto.table, c.loop-i-test.false, l))
           ∙ sym (get_or_past c.args.values.now k zero (omega (arith, c.requires, c.loop-i-test.false, l)))
     ]
+
+pub offset_bounds-table-i : goal.offset_bounds-table-i
+offset_bounds-table-i g c = record { fits = times-less c.loop-i.i (length c.args.table.now) _ _ c.loop-i-test.true (omega arith) }
+
+pub bounds-table-i : goal.bounds-table-i
+bounds-table-i g c = omega (arith, c.loop-i-test.true, c.loop-i.auto.table)
+
+pub offset_bounds-table-i-else-i-values : goal.offset_bounds-table-i-else-i-values
+offset_bounds-table-i-else-i-values g c = record { fits = times-less c.loop-i.i (length c.args.table.now) _ _ c.loop-i-test.true (omega arith) }
+
+pub bounds-table-i-else-i-values : goal.bounds-table-i-else-i-values
+bounds-table-i-else-i-values g c = omega (arith, c.loop-i-test.true, c.loop-i.auto.table)

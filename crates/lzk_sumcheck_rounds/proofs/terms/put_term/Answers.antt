@@ -3,6 +3,7 @@ use Rattle.std.proofs.lemmas.List.{get_or_default}
 use Rattle.lzk_sumcheck_rounds.specs.Pairs.{spread, ArePairs}
 use Rattle.lzk_sumcheck_rounds.specs.Rows.{counted}
 use Rattle.lzk_sumcheck_rounds.proofs.KeptLaws.{counted-linear, counted-pair}
+use Rattle.lzk_sumcheck.proofs.ProvingLaws.{times-less}
 use Rattle.lzk_sumcheck_rounds.proofs.terms.put_term.Goals as goal
 
 pub returns-then-pair-eq0-clause-sums : goal.returns-then-pair-eq0-clause-sums
@@ -44,3 +45,16 @@ returns-else-pair-eq0-clause-count g c = c.absorb.ensures.count
 
 pub bounds-linear-b : goal.bounds-linear-b
 bounds-linear-b g c = subst (λ q. q.b < length c.args.linear.now) (sym c.pair_of-pair.ensures) c.requires.linear
+
+pub offset_bounds-linear-b : goal.offset_bounds-linear-b
+offset_bounds-linear-b g c =
+    let inside : c.pair_of-pair.result.b < length c.args.linear.now = subst (λ q. q.b < length c.args.linear.now) (sym c.pair_of-pair.ensures) c.requires.linear in
+    record { fits = times-less c.pair_of-pair.result.b (length c.args.linear.now) _ _ inside (omega arith) }
+
+pub offset_bounds-linear-b-then-pair-eq0 : goal.offset_bounds-linear-b-then-pair-eq0
+offset_bounds-linear-b-then-pair-eq0 g c =
+    let inside : c.pair_of-pair.result.b < length c.args.linear.now = subst (λ q. q.b < length c.args.linear.now) (sym c.pair_of-pair.ensures) c.requires.linear in
+    record { fits = times-less c.pair_of-pair.result.b (length c.args.linear.now) _ _ inside (omega arith) }
+
+pub bounds-linear-b-then-pair-eq0 : goal.bounds-linear-b-then-pair-eq0
+bounds-linear-b-then-pair-eq0 g c = subst (λ q. q.b < length c.args.linear.now) (sym c.pair_of-pair.ensures) c.requires.linear

@@ -45,3 +45,15 @@ set_terms-requires-clause-order g c κs within = c.requires.order
 
 pub returns-clause-count : goal.returns-clause-count
 returns-clause-count g c = omega (arith, c.set_terms.ensures.count, (length-take-le (length c.args.of.now.terms.now) c.args.pairs.now c.requires.room), c.requires.room)
+
+pub slice_bounds-pairs-end : goal.slice_bounds-pairs-end
+slice_bounds-pairs-end g c = c.requires.room
+
+pub slice_bounds-pairs-end-2 : goal.slice_bounds-pairs-end-2
+slice_bounds-pairs-end-2 g c = sym (length-take-le (length c.args.of.now.terms.now) c.args.pairs.now c.requires.room)
+
+pub slice_bounds-set_terms-end : goal.slice_bounds-set_terms-end
+slice_bounds-set_terms-end g c = c.requires.size
+
+pub slice_bounds-set_terms-end-2 : goal.slice_bounds-set_terms-end-2
+slice_bounds-set_terms-end-2 g c = sym (length-take-le c.args.size c.args.linear.now c.requires.size)

@@ -2,6 +2,7 @@ use Rattle.std.proofs.Common.{ℕ, length, refl, ap, ◌∙◌, arith}
 use Rattle.std.proofs.lemmas.List.{length-set}
 use Rattle.lzk_field.specs.Sums.{entry}
 use Rattle.lzk_sumcheck.proofs.Filled.{filled_whole, filled_more}
+use Rattle.lzk_sumcheck.proofs.ProvingLaws.{times-less}
 use Rattle.lzk_sumcheck_rounds.proofs.weights.set_weights.Goals as goal
 
 pub returns : goal.returns
@@ -26,3 +27,9 @@ loop-g-preserved g c =
       length = length-set l.weights l.g x ∙ l.invariant.length;
       filled = filled_more o.zero f l.g l.weights x (omega (arith, c.loop-g-test.true, l.invariant.length)) is l.invariant.filled;
     }
+
+pub offset_bounds-weights-g : goal.offset_bounds-weights-g
+offset_bounds-weights-g g c = record { fits = times-less c.loop-g.g (length c.args.weights.now) _ _ c.loop-g-test.true (omega arith) }
+
+pub bounds-weights-g : goal.bounds-weights-g
+bounds-weights-g g c = omega (arith, c.loop-g-test.true, c.loop-g.auto.weights)

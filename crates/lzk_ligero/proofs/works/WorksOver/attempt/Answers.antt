@@ -1,5 +1,6 @@
 use Rattle.std.specs.Prelude.{take}
-use Rattle.std.proofs.Common.{refl, sym, subst, ap, ◌∙◌}
+use Rattle.std.proofs.Common.{length, refl, sym, subst, ap, ◌∙◌, arith}
+use Rattle.std.proofs.lemmas.List.{length-take-le}
 use Rattle.lzk_circuit.specs.Valid.{Wiring, IsValid}
 use Rattle.lzk_ligero_proof.specs.Proving.{IsProofFile, words_of}
 use Rattle.lzk_ligero.proofs.works.WorksOver.attempt.Goals as goal
@@ -49,3 +50,6 @@ returns g c =
         checked = c.checked_laws.ensures.checked c.args.self.now session public private word (take c.write-len.result c.deref.result.now) valid (c.requires.public, c.requires.private) file;
       },
     )
+
+pub slice_bounds-result-end : goal.slice_bounds-result-end
+slice_bounds-result-end g c = sym (length-take-le c.write-len.result c.deref.result.now (omega (arith, ap length c.deref.ensures.value, c.write-len.ensures.inside)))

@@ -1,5 +1,6 @@
 use Rattle.std.specs.Prelude.{take}
-use Rattle.std.proofs.Common.{refl, sym, subst, ap, ◌∙◌}
+use Rattle.std.proofs.Common.{length, refl, sym, subst, ap, ◌∙◌, arith}
+use Rattle.std.proofs.lemmas.List.{length-take-le}
 use Rattle.lzk_circuit.specs.Valid.{Wiring, IsValid}
 use Rattle.lzk_ligero_proof.specs.Proving.{IsChangedFile, words_of}
 use Rattle.lzk_ligero.proofs.works.WorksOver.attempt_changed.Goals as goal
@@ -53,3 +54,6 @@ returns g c =
             valid (c.requires.public, c.requires.private) satisfied c.requires.place some file;
       },
     )
+
+pub slice_bounds-result-end : goal.slice_bounds-result-end
+slice_bounds-result-end g c = sym (length-take-le c.write-len.result c.deref.result.now (omega (arith, ap length c.deref.ensures.value, c.write-len.ensures.inside)))

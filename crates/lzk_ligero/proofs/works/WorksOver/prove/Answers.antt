@@ -1,5 +1,6 @@
 use Rattle.std.specs.Prelude.{◌<◌, length, take, Some}
-use Rattle.std.proofs.Common.{refl, sym, subst, ap, ◌∙◌}
+use Rattle.std.proofs.Common.{refl, sym, subst, ap, ◌∙◌, arith}
+use Rattle.std.proofs.lemmas.List.{length-take-le}
 use Rattle.lzk_circuit.specs.Valid.{Wiring, IsValid}
 use Rattle.lzk_circuit.specs.Checks.{checks_of, IsSatisfied}
 use Rattle.lzk_circuit.specs.Wires.{inputs_of, IsFirstNonzero}
@@ -74,3 +75,6 @@ returns g c =
         accepted = c.accepted_laws.ensures.accepted c.args.self.now session public private word (take c.write-len.result c.deref.result.now) valid (c.requires.public, c.requires.private) satisfied file;
       },
     )
+
+pub slice_bounds-result-end : goal.slice_bounds-result-end
+slice_bounds-result-end g c = sym (length-take-le c.write-len.result c.deref.result.now (omega (arith, ap length c.deref.ensures.value, c.write-len.ensures.inside)))

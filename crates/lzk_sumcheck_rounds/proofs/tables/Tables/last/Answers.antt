@@ -54,3 +54,11 @@ returns-clause-coefficient g c =
     ∙ ap (λ ps. o.plus (spread o (take i.pair_count ps) 0 0) (linear_at o i.of_a i.scale (take i.linear_count c.deref-2.result.now) 0 0)) c.deref.ensures.value
     ∙ ap (λ ls. o.plus (spread o (take i.pair_count i.pairs.items) 0 0) (linear_at o i.of_a i.scale (take i.linear_count ls) 0 0)) c.deref-2.ensures.value
     ∙ ap (λ (v : KeptTables g.row.F.Denot). o.plus (spread o v.pairs 0 0) (linear_at o v.of_a v.scale v.linear 0 0)) c.self.view_is
+
+pub slice_bounds-last_coefficient-end : goal.slice_bounds-last_coefficient-end
+slice_bounds-last_coefficient-end g c =
+    sym (length-take-le c.self.inside.pair_count c.deref.result.now (omega (arith, c.self.invariant.0.pairs, ap length c.deref.ensures.value)))
+
+pub slice_bounds-last_coefficient-end-2 : goal.slice_bounds-last_coefficient-end-2
+slice_bounds-last_coefficient-end-2 g c =
+    sym (length-take-le c.self.inside.linear_count c.deref-2.result.now (omega (arith, c.self.invariant.0.linear, ap length c.deref-2.ensures.value)))
