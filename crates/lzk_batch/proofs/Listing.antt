@@ -1,15 +1,17 @@
 -- Jobs, line after line.
-use Rattle.std.proofs.Common.{◌≡◌, ℕ, ◌+◌, ◌≤◌, true, false, List, [], ◌∷◌, length, Option, Some, None, Ok, Err, Bor, MatchOption, refl, sym, ap, ◌∙◌, arith}
-use Rattle.std.specs.Option.{option_map}
+use Rattle.std.proofs.Common.{◌≡◌, ℕ, ◌+◌, ◌<◌, ◌≤◌, true, false, List, [], ◌∷◌, length, Option, Some, None, Ok, Err, Bor, MatchOption, refl, sym, ap, ◌∙◌, arith}
+use Rattle.std.specs.Prelude.{codes}
+use Rattle.std.specs.Option.{option_map, is_some}
 use Rattle.std.specs.Str.{IsUtf8, is_utf8}
-use Rattle.std.proofs.lemmas.Bool.{false_from_ne_true}
+use Rattle.std.proofs.lemmas.Bool.{false_from_ne_true, lt-ltb, le-ltb}
 use Rattle.std.proofs.lemmas.Str.{IsUtf8-from_is_utf8, is_utf8-from_IsUtf8}
-use Rattle.lzk_expr.specs.Texts.{lines, runs, is_plain}
+use Rattle.lzk_expr.specs.Texts.{lines, runs, is_plain, IsRun}
 use Rattle.lzk_expr.proofs.Taking.{lines_left, left_size, IsNext}
 use Rattle.lzk_batch.specs.declared.list_fault.ListFault.{ListFault}
 use Rattle.lzk_batch.specs.declared.list_fault.ListError.{ListError}
 use Rattle.lzk_batch.specs.declared.list_fault.ListError.TheVariants as errors
-use Rattle.lzk_batch.specs.Lists.{Listed, line_entry, entry_of, with_line, entries_to, entries_of, Fails}
+use Rattle.lzk_batch.specs.declared.list_fault.ListKind.TheVariants.{Limit}
+use Rattle.lzk_batch.specs.Lists.{Listed, most_entries, and_then, behind, session_bytes, session_of, line_entry, entry_of, is_skipped, breaks, one_more, with_line, entries_to, entries_of, Fails}
 
 -- ---- a line
 
@@ -25,6 +27,32 @@ from_words line text words o same utf8 are is =
     let passes : is_utf8 line ≡ true = is_utf8-from_IsUtf8 line utf8 in
     let all : runs is_plain line ≡ words = ap (runs is_plain) (sym same) ∙ are in
     rw (passes, all) (sym is)
+
+-- ---- the jobs with that of one more line
+
+pub skips : (line : ℕ) (bytes : List ℕ) (have : List Listed) → is_skipped bytes ≡ true → with_line line bytes have ≡ Ok have
+skips line bytes have e = rw e refl
+
+module _ (line : ℕ) (bytes : List ℕ) (have : List Listed) (stands : is_skipped bytes ≡ false) where
+  pub full : most_entries ≤ length have → with_line line bytes have ≡ breaks line Limit
+  full le = rw (stands, le-ltb (length have) most_entries le) refl
+
+  pub takes : length have < most_entries → (o : Option Listed) → line_entry bytes ≡ o → with_line line bytes have ≡ one_more line have o
+  takes less o e = rw (stands, lt-ltb (length have) most_entries less) (ap (one_more line have) e)
+
+-- ---- the session behind the names
+
+-- words behind that of a session are none of it
+pub too_many : (word : List ℕ) (words : List (List ℕ)) (text : List ℕ) (o : Option (Bor (List ℕ) × Bor (List ℕ))) → words ≡ word ∷ runs is_plain text → MatchOption o (runs is_plain text ≡ []) (λ x. IsRun is_plain text x.0.now x.1.now) → is_some o ≡ true
+    → None ≡ session_of words
+too_many word words text None are run some = absurd cc
+too_many word words text (Some x) are run some = rw (are, run.runs_are) refl
+
+-- one word is that of a session, or of none
+pub one_word : (word : List ℕ) (words : List (List ℕ)) (text : List ℕ) (o : Option (Bor (List ℕ) × Bor (List ℕ))) → words ≡ word ∷ runs is_plain text → MatchOption o (runs is_plain text ≡ []) (λ x. IsRun is_plain text x.0.now x.1.now) → is_some o ≡ false
+    → session_of words ≡ and_then (behind (codes "session=") word) session_bytes
+one_word word words text None are run none = rw (are, run) refl
+one_word word words text (Some x) are run none = absurd cc
 
 -- ---- line after line
 
@@ -67,7 +95,7 @@ unfolding entries_to
 left_done line text have h = h.read
 
 -- what a session that was read is
-pub is_session : {A : Type 0} (f : A → List ℕ) (o : Option A) (p : Option (List ℕ)) → option_map f o ≡ p → MatchOption o (p ≡ None) (λ v. p ≡ Some (f v))
+pub is_session : {A B : Type 0} (f : A → B) (o : Option A) (p : Option B) → option_map f o ≡ p → MatchOption o (p ≡ None) (λ v. p ≡ Some (f v))
 is_session f None p e = sym e
 is_session f (Some v) p e = sym e
 
@@ -75,5 +103,5 @@ none_of : {A : Type 0} (P : Type 0) (Q : A → Type 0) (o : Option A) → MatchO
 none_of P Q None h no_some = h
 none_of P Q (Some x) h no_some = absurd (no_some x refl)
 
-pub no_session : {A : Type 0} (f : A → List ℕ) (o : Option A) (p : Option (List ℕ)) → option_map f o ≡ p → ((x : A) → o ≡ Some x → ⊥) → p ≡ None
+pub no_session : {A B : Type 0} (f : A → B) (o : Option A) (p : Option B) → option_map f o ≡ p → ((x : A) → o ≡ Some x → ⊥) → p ≡ None
 no_session f o p e no_some = none_of (p ≡ None) (λ v. p ≡ Some (f v)) o (is_session f o p e) no_some

@@ -29,6 +29,16 @@ struct Batch<'a> {
     ghost dealt: { tickets.now.jobs ≡ length jobs.now },
 }
 
+// Who verifies a batch: what starts threads, what each worker enters, and how many workers there are.
+#[derive(Drop)]
+struct Team<'r, 'g, 'b, R, G> {
+    rt: &'r R,
+    alloc: Global,
+    gate: &'g G,
+    of: usize,
+    batch: Batch<'b>,
+}
+
 // Verifies the jobs whose numbers are drawn, until none is.
 fn work(
     alloc: Global,
@@ -63,7 +73,7 @@ fn work_alone(alloc: Global, batch: &Batch<'_>, pass: &mut Pass) -> Result<Vec<J
 {
     let mut desks = Desks::new(batch.circuits, batch.ids);
     let judged = work(alloc, batch, &mut desks, pass);
-    drop(desks);
+    desks.close();
     judged
 }
 
@@ -88,19 +98,15 @@ fn one_list(
 // Verifies with each of these passes, in a thread of its own. `first` is the place of the first one among all.
 #[cycle(share_out)]
 fn share_out<R: Threads + Sync, G: Gate>(
-    rt: &R,
-    alloc: Global,
-    batch: &Batch<'_>,
-    gate: &G,
+    team: &Team<'_, '_, '_, R, G>,
     first: usize,
-    of: usize,
     passes: &mut [Pass],
 ) -> Result<Vec<Vec<Judged>>, AllocError>
-    requires ready { AreReady batch.now.circuits.now batch.now.jobs.now batch.now.tickets.now passes.old }
+    requires ready { let b = team.now.batch in AreReady b.circuits.now b.jobs.now b.tickets.now passes.old }
     requires some { 1 ≤ length passes.old }
     requires few { first + length passes.old ≤ most_workers }
     ensures worked { IfOk result (λ lists.
-        HaveWorked batch.now.circuits.now batch.now.jobs.now passes.old passes.new
+        HaveWorked team.now.batch.circuits.now team.now.batch.jobs.now passes.old passes.new
         (map (λ list. list.items) lists.items)) }
     ensures draws { AllZip DrawsOn passes.old passes.new }
 {
@@ -108,29 +114,29 @@ fn share_out<R: Threads + Sync, G: Gate>(
         let Some(pass) = passes.first_mut() else {
             unreachable!()
         };
-        gate.enter(first, of);
-        return one_list(alloc, batch, pass);
+        team.gate.enter(first, team.of);
+        return one_list(team.alloc, &team.batch, pass);
     }
     let half = passes.len() / 2;
     let next = first + half;
     let (front, back) = passes.split_at_mut(half);
     let mut front_lists = ||
         requires { IsSync R.row × IsSync G.row × (1 ≤ length front.now) × (first + length front.now ≤ most_workers) ×
-            AreReady batch.now.circuits.now batch.now.jobs.now batch.now.tickets.now front.now }
+            AreReady team.now.batch.circuits.now team.now.batch.jobs.now team.now.batch.tickets.now front.now }
         ensures worked { IfOk result (λ lists.
-            HaveWorked batch.entry.now.circuits.now batch.entry.now.jobs.now front.entry.now front.exit.now
+            HaveWorked team.entry.now.batch.circuits.now team.entry.now.batch.jobs.now front.entry.now front.exit.now
             (map (λ list. list.items) lists.items)) }
         ensures draws { AllZip DrawsOn front.entry.now front.exit.now }
-    { share_out(rt, alloc, batch, gate, first, of, front) };
+    { share_out(team, first, front) };
     let mut back_lists = ||
         requires { IsSync R.row × IsSync G.row × (1 ≤ length back.now) × (next + length back.now ≤ most_workers) ×
-            AreReady batch.now.circuits.now batch.now.jobs.now batch.now.tickets.now back.now }
+            AreReady team.now.batch.circuits.now team.now.batch.jobs.now team.now.batch.tickets.now back.now }
         ensures worked { IfOk result (λ lists.
-            HaveWorked batch.entry.now.circuits.now batch.entry.now.jobs.now back.entry.now back.exit.now
+            HaveWorked team.entry.now.batch.circuits.now team.entry.now.batch.jobs.now back.entry.now back.exit.now
             (map (λ list. list.items) lists.items)) }
         ensures draws { AllZip DrawsOn back.entry.now back.exit.now }
-    { share_out(rt, alloc, batch, gate, next, of, back) };
-    let (lists, others) = join_mut(rt, &mut front_lists, &mut back_lists);
+    { share_out(team, next, back) };
+    let (lists, others) = join_mut(team.rt, &mut front_lists, &mut back_lists);
     joined(lists, others)
 }
 
@@ -207,14 +213,19 @@ pub fn verify_batch<R: Threads + Sync, G: Gate>(
     ensures all { AreAll tickets.now passes.old → AreAll tickets.now passes.new }
 {
     let ids = ids_of(alloc, circuits)?;
-    let batch = Batch {
-        circuits,
-        ids: &ids,
-        jobs,
-        tickets,
+    let team = Team {
+        rt,
+        alloc,
+        gate,
+        of: passes.len(),
+        batch: Batch {
+            circuits,
+            ids: &ids,
+            jobs,
+            tickets,
+        },
     };
-    let of = passes.len();
-    share_out(rt, alloc, &batch, gate, 0, of, passes)
+    share_out(&team, 0, passes)
 }
 
 /// Verifies jobs with so many workers, and gives their verdicts in the order of the jobs. The circuits are written
@@ -266,19 +277,18 @@ pub fn verify_all_with_ids<R: Threads + Sync, G: Gate>(
     ensures { IfOk result (λ verdicts. HaveVerdicts circuits.now jobs.now verdicts.items) }
 {
     let (tickets, mut passes) = Tickets::deal(alloc, jobs.len() as u32, workers)?;
-    let lists = share_out(
+    let team = Team {
         rt,
         alloc,
-        &Batch {
+        gate,
+        of: workers,
+        batch: Batch {
             circuits,
             ids,
             jobs,
             tickets: &tickets,
         },
-        gate,
-        0,
-        workers,
-        &mut passes,
-    )?;
+    };
+    let lists = share_out(&team, 0, &mut passes)?;
     gather_verdicts(alloc, tickets, passes, &lists)
 }

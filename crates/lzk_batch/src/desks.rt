@@ -16,11 +16,19 @@ use lzk_verify::{Desk, Verdict};
 use std::alloc::{AllocError, Global};
 use std::marker::Model;
 
-// A desk, and the place of the circuit that it is for.
-#[derive(Drop)]
+// A desk, and the place of the circuit that it is for. It is closed and not dropped, so that no drop of its parts is
+// proved here.
 struct Kept<'c, F: Field> {
     place: u32,
     desk: Desk<'c, F>,
+}
+
+// Gives the memory of a desk back, if one is kept.
+fn close<F: Field>(kept: Option<Kept<'_, F>>) {
+    match kept {
+        Some(Kept { place: _, desk }) => desk.close(),
+        None => {}
+    }
 }
 
 // Keeps a desk for the circuit at this place: the one that is kept, if it is for that, and else a new one.
@@ -41,10 +49,10 @@ fn ready<'c, F: Field>(
             return Ok(());
         }
     }
-    drop(kept.take());
+    close(kept.take());
     match Desk::with_id(alloc, circuit, id) {
         Ok(desk) => {
-            drop(kept.replace(Kept { place, desk }));
+            close(kept.replace(Kept { place, desk }));
             Ok(())
         }
         Err(error) => Err(error),
@@ -89,7 +97,6 @@ fn judge_over<'c, F: Field>(
 }
 
 /// The circuits of a batch and their ids, with the last desk over each field.
-#[derive(Drop)]
 pub(crate) struct Desks<'c> {
     circuits: &'c [AnyCircuit],
     ids: &'c [[u8; 32]],
@@ -128,6 +135,18 @@ impl<'c> Desks<'c> {
             gold: None,
             gf: None,
         }
+    }
+
+    /// Gives the memory of the desks back.
+    pub fn close(self) {
+        let Desks {
+            circuits: _,
+            ids: _,
+            gold,
+            gf,
+        } = self;
+        close(gold);
+        close(gf);
     }
 
     // The verdict on the proof of a job over Goldilocks.

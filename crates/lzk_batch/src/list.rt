@@ -106,10 +106,10 @@ fn take_line(
             kind: ListKind::Syntax,
         }));
     };
-    match entries.push(entry) {
-        Ok(()) => Ok(()),
-        Err(_) => Err(ListError::OutOfMemory),
-    }
+    let Ok(()) = entries.push(entry) else {
+        return Err(ListError::OutOfMemory);
+    };
+    Ok(())
 }
 
 /// The jobs of a list, as docs/FORMATS.md has it. The text has at most 65,536 bytes.

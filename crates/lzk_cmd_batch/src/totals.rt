@@ -45,7 +45,9 @@ pub(crate) fn read_publics<S: Shelf, F: Field>(
 {
     let text = read_file(alloc, shelf, name, MOST_TEXT)?;
     let taken = count_in(alloc, name, taken, text.len())?;
-    let elements = elements_of(alloc, name, &text, count)?;
+    let decoded = elements_of(alloc, name, &text, count);
+    drop(text);
+    let elements = decoded?;
     Ok((elements, taken))
 }
 

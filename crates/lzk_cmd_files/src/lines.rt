@@ -90,12 +90,6 @@ fn source_kind_name(kind: SourceKind) -> &'static str
     }
 }
 
-fn tell_byte(alloc: Global, name: &str, offset: u64, kind: &str) -> Result<String, AllocError>
-    ensures { IfOk result (λ s. string_bytes s ≡ lines.byte_line name.now offset kind.now) }
-{
-    format!(in alloc; "refused: {name} at byte {offset}: {kind}\n")
-}
-
 fn tell_line(alloc: Global, name: &str, line: u32, kind: &str) -> Result<String, AllocError>
     ensures { IfOk result (λ s. string_bytes s ≡ lines.text_line name.now line kind.now) }
 {
@@ -107,7 +101,9 @@ pub fn refuse_circuit(alloc: Global, name: &str, fault: ByteFault) -> Result<Str
     ensures { IfOk result
         (λ s. string_bytes s ≡ lines.byte_line name.now fault.offset (lines.byte_kind_name fault.kind)) }
 {
-    tell_byte(alloc, name, fault.offset, byte_kind_name(fault.kind))
+    let offset = fault.offset;
+    let kind = byte_kind_name(fault.kind);
+    format!(in alloc; "refused: {name} at byte {offset}: {kind}\n")
 }
 
 /// The line that refuses the text of a number file.

@@ -78,8 +78,12 @@ fn set_file(
     ensures ok { OnOk result (text_files files.new ≡ with_file (text_files files.old) name.now bytes.now) }
     ensures err { OnErr result (text_files files.new ≡ text_files files.old) }
 {
-    let key = name.to_string(alloc)?;
-    let value = bytes.to_vec(alloc)?;
+    let Ok(key) = name.to_string(alloc) else {
+        return Err(AllocError);
+    };
+    let Ok(value) = bytes.to_vec(alloc) else {
+        return Err(AllocError);
+    };
     files.insert(key, value)?;
     Ok(())
 }

@@ -48,12 +48,19 @@ fn is_open_file(name: &str) -> bool {
 
 // The name of the regular file that a link leads to, without links, where the system itself follows the link there.
 fn target_of<R: Files>(rt: &R, alloc: Global, link: &str) -> Option<String> {
-    let known = fs::metadata(rt, link).ok()?;
+    let Ok(known) = fs::metadata(rt, link) else {
+        return None;
+    };
     if !known.is_file() || is_open_file(link) {
         return None;
     }
-    let target = rt.canonicalize(alloc, link).ok()?.into_string();
-    let found = fs::symlink_metadata(rt, target.as_str()).ok()?;
+    let Ok(path) = rt.canonicalize(alloc, link) else {
+        return None;
+    };
+    let target = path.into_string();
+    let Ok(found) = fs::symlink_metadata(rt, target.as_str()) else {
+        return None;
+    };
     (found.dev() == known.dev() && found.ino() == known.ino()).then_some(target)
 }
 
@@ -119,10 +126,18 @@ fn stop_of(e: io::Error) -> Stop {
 }
 
 // Writes a new file whole and down to the disk, with the permissions of the file that it is to replace.
-fn fill<R: Files>(mut file: R::File, bytes: &[u8], kept: Option<Permissions>) -> Result<(), Stop> {
-    file.write_all(bytes).map_err(Stop::Failed)?;
+fn fill<F: Write + OpenFile>(
+    file: &mut F,
+    bytes: &[u8],
+    kept: Option<Permissions>,
+) -> Result<(), Stop> {
+    if let Err(e) = file.write_all(bytes) {
+        return Err(Stop::Failed(e));
+    }
     if let Some(permissions) = kept {
-        file.set_permissions(permissions).map_err(stop_of)?;
+        if let Err(e) = file.set_permissions(permissions) {
+            return Err(stop_of(e));
+        }
     }
     synced(file.sync_all()).map_err(Stop::Failed)
 }
@@ -154,16 +169,24 @@ fn put_beside<R: Files>(
     kept: Option<Permissions>,
 ) -> Result<(), Stop> {
     let mode = if kept.is_some() { OWNER_MODE } else { NEW_MODE };
-    let (beside, file) = file_beside(rt, alloc, name, mode).map_err(stop_of)?;
-    let mut done = fill::<R>(file, bytes, kept);
-    if done.is_ok() {
-        done = fs::rename(rt, &beside, name).map_err(stop_of);
-    }
+    let (beside, mut file) = match file_beside(rt, alloc, name, mode) {
+        Ok(made) => made,
+        Err(e) => return Err(stop_of(e)),
+    };
+    let filled = fill(&mut file, bytes, kept);
+    drop(file);
+    let done = match filled {
+        Ok(()) => fs::rename(rt, &beside, name).map_err(stop_of),
+        Err(stop) => Err(stop),
+    };
     if done.is_err() {
         let _removed = fs::remove_file(rt, &beside);
-        return done;
     }
-    sync_folder(rt, folder_of(name)).map_err(Stop::Failed)
+    drop(beside);
+    match done {
+        Ok(()) => sync_folder(rt, folder_of(name)).map_err(Stop::Failed),
+        Err(stop) => Err(stop),
+    }
 }
 
 // Cuts away what stands in a file behind the bytes that were written. Where none were, the file stays as it is.
@@ -174,7 +197,7 @@ fn cut<F: Seek + OpenFile>(file: &mut F, done: bool) -> io::Result<()> {
     }
     let at = file.stream_position()?;
     if at < known.len() && (done || at > 0) {
-        file.set_len(at)?;
+        return file.set_len(at);
     }
     Ok(())
 }

@@ -7,8 +7,12 @@ use Rattle.lzk_cmd_words.specs.Digits.{seed_of}
 use Rattle.lzk_cmd_words.proofs.Counts.{has_number}
 use Rattle.lzk_cmd.proofs.DemoRuns.{demo_walks, leaves, no_unread, on_unread}
 use Rattle.lzk_cmd_words.proofs.Sessions.{message_fits, session_fits}
-use Rattle.lzk_cmd_files.proofs.Sights.{only_moves}
+use Rattle.lzk_cmd_files.proofs.Sights.{only_moves, no_step, where_told}
 use Rattle.lzk_cmd.proofs.Works.{refused, works}
+use Rattle.std.proofs.Common.{refl}
+use Rattle.lzk_cmd.specs.RunSteps.{Works}
+use Rattle.lzk_cmd_files.specs.declared.ending.Halt.TheVariants as halts
+use Rattle.lzk_cmd_files.proofs.Steps.{handed_on}
 use Rattle.lzk_cmd.proofs.top.work.Goals as goal
 
 pub returns-in_ok-refuse-in-None-clause-works : goal.returns-in_ok-refuse-in-None-clause-works
@@ -155,3 +159,44 @@ returns-in-Some-Batch-clause-unread g c = on_unread (texts c.args.words.now) (Ba
 
 pub returns-in-Some-Batch-clause-untouched : goal.returns-in-Some-Batch-clause-untouched
 returns-in-Some-Batch-clause-untouched g c = λ h. leaves (texts c.args.words.now) (Batch c.in-Some-Batch.list.now) (rw c.in-Some-Batch.field-0-is at c.in-Some-Batch.ensures) (λ b. b) h
+
+pub returns-in-Some-Compile-clause-moves : goal.returns-in-Some-Compile-clause-moves
+returns-in-Some-Compile-clause-moves g c = c.compile_source.ensures.moves
+
+pub returns-in-Some-Upgrade-clause-moves : goal.returns-in-Some-Upgrade-clause-moves
+returns-in-Some-Upgrade-clause-moves g c = c.upgrade.ensures.moves
+
+pub returns-in-Some-Prove-clause-moves : goal.returns-in-Some-Prove-clause-moves
+returns-in-Some-Prove-clause-moves g c = c.prove.ensures.moves
+
+pub returns-in-Some-ShaCircuit-clause-moves : goal.returns-in-Some-ShaCircuit-clause-moves
+returns-in-Some-ShaCircuit-clause-moves g c = c.shacircuit.ensures.moves
+
+pub returns-in-Some-Sha256-clause-moves : goal.returns-in-Some-Sha256-clause-moves
+returns-in-Some-Sha256-clause-moves g c = c.sha256.ensures.moves
+
+pub returns-in-Some-Demo-clause-moves : goal.returns-in-Some-Demo-clause-moves
+returns-in-Some-Demo-clause-moves g c = only_moves (seen g.S.Shelf c.args.shelf.now) (seen g.S.Shelf c.args.shelf.now) (no_step (seen g.S.Shelf c.args.shelf.now))
+
+pub returns-in-Some-Demo-clause-untouched : goal.returns-in-Some-Demo-clause-untouched
+returns-in-Some-Demo-clause-untouched g c = λ h. refl
+
+pub returns-in_ok-refuse-in-None-clause-moves : goal.returns-in_ok-refuse-in-None-clause-moves
+returns-in_ok-refuse-in-None-clause-moves g c = only_moves (seen g.S.Shelf c.args.shelf.now) (seen g.S.Shelf c.args.shelf.now) (no_step (seen g.S.Shelf c.args.shelf.now))
+
+pub returns-in_ok-refuse-in-None-clause-untouched : goal.returns-in_ok-refuse-in-None-clause-untouched
+returns-in_ok-refuse-in-None-clause-untouched g c = λ h. refl
+
+pub returns-in_err-refuse-in-None-clause-moves : goal.returns-in_err-refuse-in-None-clause-moves
+returns-in_err-refuse-in-None-clause-moves g c = only_moves (seen g.S.Shelf c.args.shelf.now) (seen g.S.Shelf c.args.shelf.now) (no_step (seen g.S.Shelf c.args.shelf.now))
+
+pub returns-in_err-refuse-in-None-clause-untouched : goal.returns-in_err-refuse-in-None-clause-untouched
+returns-in_err-refuse-in-None-clause-untouched g c = λ h. refl
+
+pub returns-in_err-refuse-in-None-clause-unread : goal.returns-in_err-refuse-in-None-clause-unread
+returns-in_err-refuse-in-None-clause-unread g c = no_unread (texts c.args.words.now) _ c.in-None.ensures
+
+pub returns-in_err-refuse-in-None-clause-works : goal.returns-in_err-refuse-in-None-clause-works
+returns-in_err-refuse-in-None-clause-works g c =
+    let s = seen g.S.Shelf c.args.shelf.now in
+    handed_on (Works (texts c.args.words.now) s s) _ halts.Memory c.from_residual.ensures.1 (where_told s.files _ (λ f at. at))

@@ -36,3 +36,15 @@ returns-in_ok-job-in-Gf-clause-gives g c =
     let entry = entry_view c.args.entry.now in
     subst (λ (k : AnyCircuit). ReadsAny k told entry c.args.place c.args.taken (jobs.Gf c.in_ok-job-in-Gf.job) c.in_ok-job-in-Gf.taken) (sym c.in-Gf.is)
     (gf_reads told entry c.args.place c.args.taken c.in_ok-job-in-Gf.taken c.in-Gf.c c.in_ok-job-in-Gf.job c.in_ok-job-in-Gf.ensures.gives)
+
+pub returns-in_err-job-in-Gold-clause-reads : goal.returns-in_err-job-in-Gold-clause-reads
+returns-in_err-job-in-Gold-clause-reads g c = c.read_over.ensures.reads
+
+pub returns-in_err-job-in-Gf-clause-reads : goal.returns-in_err-job-in-Gf-clause-reads
+returns-in_err-job-in-Gf-clause-reads g c = c.read_over-in-Gf.ensures.reads
+
+pub returns-in_ok-job-in-Gold-clause-reads : goal.returns-in_ok-job-in-Gold-clause-reads
+returns-in_ok-job-in-Gold-clause-reads g c = c.read_over.ensures.reads
+
+pub returns-in_ok-job-in-Gf-clause-reads : goal.returns-in_ok-job-in-Gf-clause-reads
+returns-in_ok-job-in-Gf-clause-reads g c = c.read_over-in-Gf.ensures.reads

@@ -7,6 +7,8 @@ use Rattle.lzk_cmd_batch.proofs.Keeping.{kept_ids}
 use Rattle.lzk_cmd_files.specs.Seen.{seen}
 use Rattle.lzk_cmd_batch.proofs.Gathers.{entry_at, short_at, reading_begins, reading_goes_on, reading_ends, ends_later}
 use Rattle.lzk_cmd_files.proofs.Sights.{reads_then}
+use Rattle.std.proofs.lemmas.Result.{IfOk-from_err}
+use Rattle.lzk_cmd_batch.proofs.Gathers.{no_jobs}
 use Rattle.lzk_cmd_batch.proofs.gathering.read_jobs.Goals as goal
 
 pub loop-i-init : goal.loop-i-init
@@ -55,3 +57,18 @@ returns-clause-ids g c =
 
 pub returns-clause-reads : goal.returns-clause-reads
 returns-clause-reads g c = c.loop-i.invariant.reads
+
+pub returns-in_err-job-clause-ids : goal.returns-in_err-job-clause-ids
+returns-in_err-job-clause-ids g c = IfOk-from_err _ _ c.from_residual.ensures.0
+
+pub returns-in_err-push-clause-ids : goal.returns-in_err-push-clause-ids
+returns-in_err-push-clause-ids g c = IfOk-from_err _ _ c.from_residual-in_err-push.ensures.0
+
+pub returns-in_err-ids-clause-ids : goal.returns-in_err-ids-clause-ids
+returns-in_err-ids-clause-ids g c = IfOk-from_err _ _ c.from_residual-in_err-ids.ensures.0
+
+pub returns-in_err-push-clause-gives : goal.returns-in_err-push-clause-gives
+returns-in_err-push-clause-gives g c = no_jobs (seen g.S.Shelf c.args.shelf.now) (seen g.S.Shelf c.read_job.new.shelf) (map entry_view c.args.entries.now) _ c.from_residual-in_err-push.ensures.1
+
+pub returns-in_err-ids-clause-gives : goal.returns-in_err-ids-clause-gives
+returns-in_err-ids-clause-gives g c = no_jobs (seen g.S.Shelf c.args.shelf.now) (seen g.S.Shelf c.loop-i.shelf) (map entry_view c.args.entries.now) _ c.from_residual-in_err-ids.ensures.1

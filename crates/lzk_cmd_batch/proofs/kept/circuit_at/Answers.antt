@@ -5,6 +5,9 @@ use Rattle.std.proofs.lemmas.Result.{IfOk-from_err}
 use Rattle.std.proofs.Common.{◌∙◌, arith, refl, subst, ◌≢◌}
 use Rattle.lzk_cmd_files.specs.Seen.{seen}
 use Rattle.lzk_cmd_batch.proofs.Keeping.{few_at, again_at, again_over_at, last_place, nowhere}
+use Rattle.lzk_cmd_batch.specs.Gathered.{GivesPlace}
+use Rattle.lzk_cmd_files.proofs.Steps.{handed_on}
+use Rattle.lzk_cmd_batch.proofs.Keeping.{as_before}
 use Rattle.lzk_cmd_batch.proofs.kept.circuit_at.Goals as goal
 
 pub count_in-requires-clause-bytes : goal.count_in-requires-clause-bytes
@@ -66,3 +69,11 @@ returns-in_ok-taken-in-None-clause-reads g c = c.keep_circuit.ensures.reads
 
 pub returns-in_ok-taken-in-None-clause-again : goal.returns-in_ok-taken-in-None-clause-again
 returns-in_ok-taken-in-None-clause-again g c = λ place is. absurd (nowhere c.args.kept.now.files.items c.args.name.now (subst (All (λ (file : CircuitFile). file.name.now ≢ c.args.name.now)) c.deref.ensures.value c.in-None.ensures.none) place is)
+
+pub returns-in_err-taken-in-None-clause-gives : goal.returns-in_err-taken-in-None-clause-gives
+returns-in_err-taken-in-None-clause-gives g c =
+    handed_on (GivesPlace (seen g.S.Shelf c.args.shelf.now) (seen g.S.Shelf c.keep_circuit.new.shelf) c.keep_circuit.new.kept.all.items c.args.name.now c.args.taken) _ c.in_err-taken-in-None.field-0.0
+    c.from_residual-in_err-taken-in-None.ensures.1 c.in_err-taken-in-None.ensures.gives
+
+pub returns-in_ok-taken-in-Some-clause-kept : goal.returns-in_ok-taken-in-Some-clause-kept
+returns-in_ok-taken-in-Some-clause-kept g c = as_before (g.S.Shelf.held c.args.shelf.now) c.args.kept.now c.requires.kept

@@ -1,10 +1,13 @@
 use Rattle.std.proofs.lemmas.Result.{IfOk-from_err}
-use Rattle.std.proofs.Common.{ℕ, Err, refl, ◌∙◌}
+use Rattle.std.proofs.Common.{ℕ, Err, refl, ◌∙◌, arith}
 use Rattle.lzk_circbytes.specs.declared.any.AnyCircuit.{AnyCircuit}
 use Rattle.lzk_cmd_files.specs.Decoded.{circuit_files}
 use Rattle.lzk_cmd_files.specs.Seen.{seen}
 use Rattle.lzk_cmd_files.specs.declared.circuits.Held.{Held}
-use Rattle.lzk_cmd_batch.proofs.Keeping.{refused, no_last, last_circuit, put_behind}
+use Rattle.lzk_cmd_batch.proofs.Keeping.{over, refused, no_last, last_circuit, put_behind}
+use Rattle.lzk_cmd_files.specs.declared.ending.Halt.TheVariants as halts
+use Rattle.lzk_cmd_files.proofs.Steps.{no_bytes}
+use Rattle.lzk_cmd_batch.specs.Batched.{among}
 use Rattle.lzk_cmd_batch.proofs.kept.keep_circuit.Goals as goal
 
 pub returns-in_err-circuit-clause-gives : goal.returns-in_err-circuit-clause-gives
@@ -61,3 +64,29 @@ returns-clause-reads g c = c.read_file.ensures.reads
 
 pub count_in-requires-clause-taken : goal.count_in-requires-clause-taken
 count_in-requires-clause-taken g c = c.requires.taken
+
+pub returns-in_err-bytes-clause-gives : goal.returns-in_err-bytes-clause-gives
+returns-in_err-bytes-clause-gives g c =
+    let old = seen g.S.Shelf c.args.shelf.now in
+    let new = seen g.S.Shelf c.read_file.new.shelf in
+    let h = c.in_err-bytes.field-0.0 in
+    no_last old new c.args.kept.now c.args.kept.now c.args.name.now c.args.taken h _
+    (no_bytes (among c.args.taken circuit_files) (λ (found : AnyCircuit × ℕ). found) c.args.name.now old new (Err h) h c.in_err-bytes.ensures.gives refl) c.from_residual.ensures.1
+
+pub returns-in_err-taken-clause-gives : goal.returns-in_err-taken-clause-gives
+returns-in_err-taken-clause-gives g c =
+    let old = seen g.S.Shelf c.args.shelf.now in
+    let new = seen g.S.Shelf c.read_file.new.shelf in
+    let h = c.in_err-taken.field-0.0 in
+    no_last old new c.args.kept.now c.args.kept.now c.args.name.now c.args.taken h _
+    (over circuit_files (λ (found : AnyCircuit × ℕ). found) c.args.name.now old new c.args.taken (Err h) c.in_ok-bytes.bytes.items c.len.result h
+    (c.len.ensures ∙ c.in_ok-bytes.bytes.ok.0) c.in_ok-bytes.ensures.gives c.in_err-taken.ensures refl) c.from_residual-in_err-taken.ensures.1
+
+pub returns-in_err-push-clause-gives : goal.returns-in_err-push-clause-gives
+returns-in_err-push-clause-gives g c = no_last (seen g.S.Shelf c.args.shelf.now) (seen g.S.Shelf c.read_file.new.shelf) c.args.kept.now (record { files = c.push.new.self; all = c.args.kept.now.all }) c.args.name.now c.args.taken halts.Memory _ tt c.from_residual-in_err-push.ensures.1
+
+pub returns-in_err-push-2-clause-gives : goal.returns-in_err-push-2-clause-gives
+returns-in_err-push-2-clause-gives g c = no_last (seen g.S.Shelf c.args.shelf.now) (seen g.S.Shelf c.read_file.new.shelf) c.args.kept.now (record { files = c.push.new.self; all = c.push-2.new.self }) c.args.name.now c.args.taken halts.Memory _ tt c.from_residual-in_err-push-2.ensures.1
+
+pub count_in-requires-clause-bytes : goal.count_in-requires-clause-bytes
+count_in-requires-clause-bytes g c = omega (arith, c.len.ensures, c.in_ok-bytes.bytes.ok.0, c.in_ok-bytes.ensures.fits)

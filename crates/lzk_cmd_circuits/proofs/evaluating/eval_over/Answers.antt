@@ -1,4 +1,4 @@
-use Rattle.std.proofs.Common.{List, refl, subst}
+use Rattle.std.proofs.Common.{List, refl, subst, length, ap, ◌∙◌}
 use Rattle.lzk_circuit.specs.Checks.{checks_of}
 use Rattle.lzk_circuit.specs.Wires.{inputs_of}
 use Rattle.lzk_cmd_circuits.specs.Evaluated.{EvalOver}
@@ -47,3 +47,9 @@ returns-in_err-privates-clause-reads g c = reads_then (seen g.S.Shelf c.args.she
 
 pub returns-clause-reads : goal.returns-clause-reads
 returns-clause-reads g c = reads_then (seen g.S.Shelf c.args.shelf.now) (seen g.S.Shelf c.read_elements.new.shelf) (seen g.S.Shelf c.read_elements-2.new.shelf) c.read_elements.ensures.reads c.read_elements-2.ensures.reads
+
+pub evaluate-requires-clause-publics : goal.evaluate-requires-clause-publics
+evaluate-requires-clause-publics g c κs within = ap length c.deref.ensures.value ∙ c.in_ok-publics.ensures.count ∙ c.publics.ensures
+
+pub evaluate-requires-clause-privates : goal.evaluate-requires-clause-privates
+evaluate-requires-clause-privates g c κs within = ap length c.deref-2.ensures.value ∙ c.in_ok-privates.ensures.count ∙ c.privates.ensures

@@ -32,3 +32,9 @@ returns-in_err-bytes-clause-moves g c = only_moves (seen g.S.Shelf c.args.shelf.
 
 pub returns-clause-moves : goal.returns-clause-moves
 returns-clause-moves g c = c.put_file.ensures.moves
+
+pub len_of-requires : goal.len_of-requires
+len_of-requires g c = c.requires.number
+
+pub sha_file-requires : goal.sha_file-requires
+sha_file-requires g c = c.len_of.ensures.most

@@ -1,4 +1,4 @@
-use Rattle.std.proofs.Common.{◌≡◌, Ok, inl, refl, arith}
+use Rattle.std.proofs.Common.{◌≡◌, Ok, inl, refl, arith, ◌∙◌}
 use Rattle.lzk_circbytes.specs.declared.any.AnyCircuit.{AnyCircuit}
 use Rattle.lzk_outside.specs.Outside.{Files}
 use Rattle.lzk_cmd_files.specs.Decoded.{circuit_files}
@@ -7,8 +7,10 @@ use Rattle.lzk_cmd_circuits.specs.Evaluated.{ShowRun, shown_any}
 use Rattle.lzk_cmd_files.specs.Seen.{seen}
 use Rattle.lzk_cmd_files.specs.declared.circuits.Held.{Held}
 use Rattle.lzk_cmd_files.proofs.Laws as laws
-use Rattle.lzk_cmd_files.proofs.Sights.{no_step}
-use Rattle.lzk_cmd_files.proofs.Steps.{ends, then, here}
+use Rattle.lzk_cmd_files.proofs.Sights.{no_step, where_told}
+use Rattle.lzk_cmd_files.proofs.Steps.{ends, then, here, handed_on}
+use Rattle.lzk_cmd_files.specs.declared.ending.Halt.TheVariants as halts
+use Rattle.lzk_cmd_files.specs.Walks.{Walks}
 use Rattle.lzk_cmd_circuits.proofs.showing.show.Goals as goal
 
 -- the walk that has the circuit
@@ -35,3 +37,11 @@ returns-in_err-ending_of-clause-reads g c = c.read_held.ensures.reads
 
 pub returns-clause-reads : goal.returns-clause-reads
 returns-clause-reads g c = c.read_held.ensures.reads
+
+pub returns-in_err-ending_of-clause-walks : goal.returns-in_err-ending_of-clause-walks
+returns-in_err-ending_of-clause-walks g c =
+    let old = seen g.S.Shelf c.args.shelf.now in
+    handed_on (Walks (ShowRun c.args.circuit.now) 0 old (seen g.S.Shelf c.read_held.new.shelf)) _ halts.Memory c.from_residual-in_err-ending_of.ensures.1 (where_told old.files _ (λ f at. c.in_ok-held.ensures.reads.files ∙ at))
+
+pub ending_of-requires : goal.ending_of-requires
+ending_of-requires g c = record { id = c.in_ok-held.ensures.id }

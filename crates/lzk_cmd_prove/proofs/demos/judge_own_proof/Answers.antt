@@ -1,9 +1,10 @@
-use Rattle.std.proofs.Common.{[], Some, refl, subst}
+use Rattle.std.proofs.Common.{[], Some, refl, subst, ap, sym, ◌∙◌}
 use Rattle.lzk_circuit.specs.Checks.{checks_of}
 use Rattle.lzk_circuit.specs.Valid.{Wiring}
 use Rattle.lzk_circuit.specs.Wires.{inputs_of, IsFirstNonzero}
 use Rattle.lzk_ligero_proof.specs.Proving.{IsProofFile, words_of}
 use Rattle.lzk_cmd_prove.proofs.DemoCounts.{none_nonzero}
+use Rattle.std.proofs.lemmas.Result.{IfOk-from_err}
 use Rattle.lzk_cmd_prove.proofs.demos.judge_own_proof.Goals as goal
 
 pub unreachable-requires : goal.unreachable-requires
@@ -28,3 +29,24 @@ returns g c =
       is = c.in_ok-verdict-in-Ok.ensures.verdict;
       only = c.in_ok-verdict-in-Ok.ensures.one;
     }
+
+pub prove-requires-clause-some : goal.prove-requires-clause-some
+prove-requires-clause-some g c κs within = c.args.by.some
+
+pub prove-requires-clause-most : goal.prove-requires-clause-most
+prove-requires-clause-most g c κs within = c.args.by.few
+
+pub prove-requires-clause-public : goal.prove-requires-clause-public
+prove-requires-clause-public g c κs within = c.args.given.now.publics_fit ∙ ap (λ (w : Wiring _). w.publics) (sym c.requires.works)
+
+pub prove-requires-clause-private : goal.prove-requires-clause-private
+prove-requires-clause-private g c κs within = c.args.given.now.privates_fit ∙ ap (λ (w : Wiring _). w.privates) (sym c.requires.works)
+
+pub verdict_on-requires-clause-id : goal.verdict_on-requires-clause-id
+verdict_on-requires-clause-id g c κs within = c.requires.id
+
+pub verdict_on-requires-clause-publics : goal.verdict_on-requires-clause-publics
+verdict_on-requires-clause-publics g c κs within = c.args.given.now.publics_fit
+
+pub returns-in_err-verdict-in-Ok : goal.returns-in_err-verdict-in-Ok
+returns-in_err-verdict-in-Ok g c = IfOk-from_err _ _ c.from_residual.ensures.0

@@ -10,6 +10,7 @@ use Rattle.lzk_cmd_prove.specs.Demo.{HasVerdict}
 use Rattle.lzk_cmd_prove.specs.Proved.{gold_word}
 use Rattle.lzk_cmd_verify.specs.Verified.{gold_coding}
 use Rattle.lzk_cmd_prove.proofs.DemoCounts.{length_private}
+use Rattle.std.proofs.lemmas.Result.{IfOk-from_err}
 use Rattle.lzk_cmd_prove.proofs.demos.prove_own_inputs.Goals as goal
 
 pub invariant_of-given : goal.invariant_of-given
@@ -35,3 +36,9 @@ returns g c =
     let len = c.prove_demo-len.result in
     subst (λ (ps : List GoldElement). IfOk len (λ n. HasVerdict ops gold_coding circuit ps (demo_private ops demo.n) (gold_word c.args.by.seed) n Accepted)) public
     (subst (λ (qs : List GoldElement). IfOk len (λ n. HasVerdict ops gold_coding circuit c.as_slice.result.now qs (gold_word c.args.by.seed) n Accepted)) private c.prove_demo-len.ensures)
+
+pub demo_inputs-requires : goal.demo_inputs-requires
+demo_inputs-requires g c = c.args.demo.now.some
+
+pub returns-in_err-inputs : goal.returns-in_err-inputs
+returns-in_err-inputs g c = IfOk-from_err _ _ c.from_residual.ensures.0

@@ -1,4 +1,4 @@
-use Rattle.std.proofs.Common.{◌≡◌, ℕ, List, subst, ◌∙◌}
+use Rattle.std.proofs.Common.{◌≡◌, ℕ, List, subst, ◌∙◌, ◌≤◌, length, sym}
 use Rattle.std.specs.Option.{option_copied}
 use Rattle.lzk_circbytes.specs.declared.any.AnyCircuit.{AnyCircuit}
 use Rattle.lzk_outside.specs.Outside.{Files}
@@ -12,6 +12,7 @@ use Rattle.lzk_cmd_files.specs.declared.circuits.Held.{Held}
 use Rattle.lzk_cmd_files.proofs.Laws as laws
 use Rattle.lzk_cmd_files.proofs.Steps.{ends, then}
 use Rattle.lzk_cmd_circuits.proofs.ShaFiles.{no_memory}
+use Rattle.lzk_cmd_files.proofs.Sights.{no_step, only_moves, moves_then}
 use Rattle.lzk_cmd_prove.proofs.hashing.sha256.Goals as goal
 
 -- the walk that has the circuit
@@ -51,3 +52,29 @@ returns-clause-walks g c =
     let both = subst (λ (s : List ℕ). WalksToPut (λ files. HashAny name held.circuit message order.proof.now s c.seed_bytes.result) 1 mid end c.hash_any.result) same_session first in
     let all = subst (λ (s : List ℕ). WalksToPut (λ files. HashAny name held.circuit message order.proof.now session s) 1 mid end c.hash_any.result) c.seed_bytes.ensures both in
     then circuit_files (λ (held : Held). held.circuit) name 0 (next name message order.proof.now session (seed_of order.seed.now)) (Unit {0}) (seen g.S.Shelf c.args.shelf.now) mid end held c.hash_any.result c.in_ok-held.ensures.reads c.in_ok-held.ensures.gives all
+
+pub returns-in_err-session-clause-moves : goal.returns-in_err-session-clause-moves
+returns-in_err-session-clause-moves g c = only_moves (seen g.S.Shelf c.args.shelf.now) (seen g.S.Shelf c.args.shelf.now) (no_step (seen g.S.Shelf c.args.shelf.now))
+
+pub returns-in_err-message-clause-moves : goal.returns-in_err-message-clause-moves
+returns-in_err-message-clause-moves g c = only_moves (seen g.S.Shelf c.args.shelf.now) (seen g.S.Shelf c.args.shelf.now) (no_step (seen g.S.Shelf c.args.shelf.now))
+
+pub returns-in_err-held-clause-moves : goal.returns-in_err-held-clause-moves
+returns-in_err-held-clause-moves g c = only_moves (seen g.S.Shelf c.args.shelf.now) (seen g.S.Shelf c.read_shared.new.shelf) c.read_shared.ensures.reads
+
+pub returns-clause-moves : goal.returns-clause-moves
+returns-clause-moves g c = moves_then (seen g.S.Shelf c.args.shelf.now) (seen g.S.Shelf c.read_shared.new.shelf) (seen g.S.Shelf c.hash_any.new.shelf) c.read_shared.ensures.reads c.hash_any.ensures.moves
+
+pub invariant_of-task : goal.invariant_of-task
+invariant_of-task g c =
+    record {
+      short = subst (λ xs. length xs ≤ 64) (sym (c.deref.ensures.value ∙ c.in_ok-session.ensures)) c.requires.session;
+      some = c.workers_of-workers.ensures.some;
+      few = c.workers_of-workers.ensures.most;
+    }
+
+pub hash_any-requires-clause-id : goal.hash_any-requires-clause-id
+hash_any-requires-clause-id g c κs within = c.in_ok-held.ensures.id
+
+pub hash_any-requires-clause-message : goal.hash_any-requires-clause-message
+hash_any-requires-clause-message g c κs within = subst (λ xs. length xs ≤ 55) (sym (c.deref-2.ensures.value ∙ c.in_ok-message.ensures)) c.requires.message

@@ -3,6 +3,7 @@ use Rattle.std.specs.Option.{option_copied}
 use Rattle.lzk_cmd_files.specs.Seen.{seen}
 use Rattle.lzk_cmd_files.specs.declared.ending.Halt.TheVariants as halts
 use Rattle.lzk_cmd_prove.proofs.Proves.{no_memory}
+use Rattle.lzk_cmd_files.proofs.Sights.{no_step, only_moves}
 use Rattle.lzk_cmd_prove.proofs.proving.prove_inputs.Goals as goal
 
 pub with_id-requires-clause-id : goal.with_id-requires-clause-id
@@ -22,3 +23,6 @@ returns-clause-walks g c = c.put_proof-ending.ensures.walks
 
 pub returns-clause-moves : goal.returns-clause-moves
 returns-clause-moves g c = c.put_proof-ending.ensures.moves
+
+pub returns-in_err-works-clause-moves : goal.returns-in_err-works-clause-moves
+returns-in_err-works-clause-moves g c = only_moves (seen g.S.Shelf c.args.shelf.now) (seen g.S.Shelf c.args.shelf.now) (no_step (seen g.S.Shelf c.args.shelf.now))

@@ -1,4 +1,4 @@
-use Rattle.std.proofs.Common.{Some, None, refl, subst}
+use Rattle.std.proofs.Common.{Some, None, refl, subst, ap, sym, ◌∙◌}
 use Rattle.std.specs.Option.{option_copied}
 use Rattle.lzk_circuit.specs.Checks.{checks_of}
 use Rattle.lzk_circuit.specs.Valid.{Wiring}
@@ -7,6 +7,7 @@ use Rattle.lzk_ligero_proof.specs.Proving.{IsProofFile, words_of}
 use Rattle.lzk_cmd_files.specs.Seen.{seen}
 use Rattle.lzk_cmd_files.specs.declared.ending.Halt.TheVariants as halts
 use Rattle.lzk_cmd_prove.proofs.Proves.{no_memory, puts_proof, tells_first}
+use Rattle.lzk_cmd_files.proofs.Sights.{no_step, only_moves}
 use Rattle.lzk_cmd_prove.proofs.proving.put_proof.Goals as goal
 
 pub returns-in_ok-text-in-Ok-clause-walks : goal.returns-in_ok-text-in-Ok-clause-walks
@@ -43,3 +44,30 @@ returns-in_err-unsatisfied-in-Err-clause-walks g c =
     let e = g.F.Field.coding in
     let task = c.args.task.now in
     no_memory g.F.Field.ops e c.args.given.now.circuit.now task.proof.now (option_copied task.digest) task.session.now (g.W.Words.at c.args.words.now) c.args.given.now.publics.now c.args.given.now.privates.now (seen g.S.Shelf c.args.shelf.now) halts.Memory _ refl c.from_residual-in_err-unsatisfied-in-Err.ensures.1
+
+pub prove-requires-clause-session : goal.prove-requires-clause-session
+prove-requires-clause-session g c κs within = c.args.task.now.short
+
+pub prove-requires-clause-some : goal.prove-requires-clause-some
+prove-requires-clause-some g c κs within = c.args.task.now.some
+
+pub prove-requires-clause-most : goal.prove-requires-clause-most
+prove-requires-clause-most g c κs within = c.args.task.now.few
+
+pub prove-requires-clause-public : goal.prove-requires-clause-public
+prove-requires-clause-public g c κs within = c.args.given.now.publics_fit ∙ ap (λ (w : Wiring _). w.publics) (sym c.requires.works)
+
+pub prove-requires-clause-private : goal.prove-requires-clause-private
+prove-requires-clause-private g c κs within = c.args.given.now.privates_fit ∙ ap (λ (w : Wiring _). w.privates) (sym c.requires.works)
+
+pub returns-in_ok-text-in-Ok-clause-moves : goal.returns-in_ok-text-in-Ok-clause-moves
+returns-in_ok-text-in-Ok-clause-moves g c = c.put_file.ensures.moves
+
+pub returns-in_err-text-in-Ok-clause-moves : goal.returns-in_err-text-in-Ok-clause-moves
+returns-in_err-text-in-Ok-clause-moves g c = only_moves (seen g.S.Shelf c.args.shelf.now) (seen g.S.Shelf c.args.shelf.now) (no_step (seen g.S.Shelf c.args.shelf.now))
+
+pub returns-in_err-unsatisfied-in-Err-clause-moves : goal.returns-in_err-unsatisfied-in-Err-clause-moves
+returns-in_err-unsatisfied-in-Err-clause-moves g c = only_moves (seen g.S.Shelf c.args.shelf.now) (seen g.S.Shelf c.args.shelf.now) (no_step (seen g.S.Shelf c.args.shelf.now))
+
+pub returns-in_ok-unsatisfied-in-Err-clause-moves : goal.returns-in_ok-unsatisfied-in-Err-clause-moves
+returns-in_ok-unsatisfied-in-Err-clause-moves g c = only_moves (seen g.S.Shelf c.args.shelf.now) (seen g.S.Shelf c.args.shelf.now) (no_step (seen g.S.Shelf c.args.shelf.now))

@@ -1,5 +1,10 @@
 use Rattle.lzk_cmd_files.specs.Seen.{seen}
 use Rattle.lzk_cmd_verify.proofs.Halts.{halts_at}
+use Rattle.std.proofs.Common.{refl}
+use Rattle.lzk_cmd_files.specs.declared.ending.Halt.TheVariants as halts
+use Rattle.lzk_cmd_files.proofs.Steps.{handed_on}
+use Rattle.lzk_cmd_files.proofs.Sights.{no_step}
+use Rattle.lzk_cmd_verify.specs.Feeding.{FeedsOrEnds}
 use Rattle.lzk_cmd_verify.proofs.feeding.feed_proof.Goals as goal
 
 pub returns-in-Err-clause-gives : goal.returns-in-Err-clause-gives
@@ -29,3 +34,18 @@ returns-in-Ok-clause-reads g c = c.in-Ok.ensures.reads
 
 pub returns-in-Ok-clause-gives : goal.returns-in-Ok-clause-gives
 returns-in-Ok-clause-gives g c = c.in-Ok.ensures.told
+
+pub returns-in_err-buffer-clause-circuit : goal.returns-in_err-buffer-clause-circuit
+returns-in_err-buffer-clause-circuit g c = refl
+
+pub returns-in_err-buffer-clause-fed : goal.returns-in_err-buffer-clause-fed
+returns-in_err-buffer-clause-fed g c = c.requires.fed
+
+pub returns-in_err-buffer-clause-reads : goal.returns-in_err-buffer-clause-reads
+returns-in_err-buffer-clause-reads g c = no_step (seen g.S.Shelf c.args.shelf.now)
+
+pub returns-in_err-buffer-clause-gives : goal.returns-in_err-buffer-clause-gives
+returns-in_err-buffer-clause-gives g c = handed_on (FeedsOrEnds g.F.Field.ops g.F.Field.coding (seen g.S.Shelf c.args.shelf.now) (seen g.S.Shelf c.args.shelf.now) c.args.name.now c.args.desk.now c.args.desk.now) _ halts.Memory c.from_residual.ensures.1 tt
+
+pub feed_file-fed-requires-clause-fed : goal.feed_file-fed-requires-clause-fed
+feed_file-fed-requires-clause-fed g c κs within = c.requires.fed

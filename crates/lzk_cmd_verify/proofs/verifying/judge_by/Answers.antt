@@ -41,3 +41,12 @@ returns-in_err-ending_of-clause-reads g c = c.feed_proof.ensures.reads
 
 pub returns-clause-reads : goal.returns-clause-reads
 returns-clause-reads g c = c.feed_proof.ensures.reads
+
+pub open-requires-clause-session : goal.open-requires-clause-session
+open-requires-clause-session g c κs within = c.requires.session
+
+pub open-requires-clause-public : goal.open-requires-clause-public
+open-requires-clause-public g c κs within = c.requires.publics
+
+pub end-verdict-requires-clause-fed : goal.end-verdict-requires-clause-fed
+end-verdict-requires-clause-fed g c κs within = c.in_ok-feed_proof.ensures.fed

@@ -1,4 +1,4 @@
-use Rattle.std.proofs.Common.{[], subst}
+use Rattle.std.proofs.Common.{[], subst, ap, sym, ◌∙◌}
 use Rattle.std.proofs.lemmas.Result.{IfOk-from_err}
 use Rattle.lzk_circuit.specs.Valid.{Wiring}
 use Rattle.lzk_verify.specs.Verdict.{IsVerdict, IsOnlyVerdict}
@@ -21,3 +21,9 @@ returns-in_err-desk-clause-verdict g c = IfOk-from_err _ _ c.from_residual.ensur
 
 pub returns-in_err-desk-clause-one : goal.returns-in_err-desk-clause-one
 returns-in_err-desk-clause-one g c = IfOk-from_err _ _ c.from_residual.ensures.0
+
+pub with_id-requires-clause-id : goal.with_id-requires-clause-id
+with_id-requires-clause-id g c κs within = c.requires.id
+
+pub verify-verdict-requires-clause-public : goal.verify-verdict-requires-clause-public
+verify-verdict-requires-clause-public g c κs within = c.requires.publics ∙ ap (λ (w : Wiring _). w.publics) (sym c.in_ok-desk.ensures.circuit)

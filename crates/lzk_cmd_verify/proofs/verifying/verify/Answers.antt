@@ -1,4 +1,4 @@
-use Rattle.std.proofs.Common.{◌≡◌, ℕ, List, subst, ◌∙◌}
+use Rattle.std.proofs.Common.{◌≡◌, ℕ, List, subst, ◌∙◌, ◌≤◌, length, sym}
 use Rattle.std.specs.Option.{option_copied}
 use Rattle.lzk_circbytes.specs.declared.any.AnyCircuit.{AnyCircuit}
 use Rattle.lzk_outside.specs.Outside.{Files}
@@ -10,8 +10,9 @@ use Rattle.lzk_cmd_words.specs.Digits.{session_of}
 use Rattle.lzk_cmd_files.specs.Walks.{Walks}
 use Rattle.lzk_cmd_files.specs.declared.circuits.Held.{Held}
 use Rattle.lzk_cmd_files.proofs.Laws as laws
-use Rattle.lzk_cmd_files.proofs.Steps.{ends, then}
-use Rattle.lzk_cmd_files.proofs.Sights.{no_step, reads_then}
+use Rattle.lzk_cmd_files.proofs.Steps.{ends, then, handed_on}
+use Rattle.lzk_cmd_files.proofs.Sights.{no_step, reads_then, where_told}
+use Rattle.lzk_cmd_files.specs.declared.ending.Halt.TheVariants as halts
 use Rattle.lzk_cmd_verify.proofs.verifying.verify.Goals as goal
 
 -- the walk that has the circuit
@@ -42,3 +43,14 @@ returns-in_err-held-clause-reads g c = c.read_held.ensures.reads
 
 pub returns-clause-reads : goal.returns-clause-reads
 returns-clause-reads g c = reads_then (seen g.S.Shelf c.args.shelf.now) (seen g.S.Shelf c.read_held.new.shelf) (seen g.S.Shelf c.verify_any.new.shelf) c.read_held.ensures.reads c.verify_any.ensures.reads
+
+pub returns-in_err-session-clause-walks : goal.returns-in_err-session-clause-walks
+returns-in_err-session-clause-walks g c =
+    let old = seen g.S.Shelf c.args.shelf.now in
+    handed_on (Walks (VerifyRun c.args.circuit.now c.args.public_file.now c.args.proof.now (option_copied c.args.session)) 0 old old) _ halts.Memory c.from_residual.ensures.1 (where_told old.files _ (λ f at. at))
+
+pub verify_any-requires-clause-id : goal.verify_any-requires-clause-id
+verify_any-requires-clause-id g c = c.in_ok-held.ensures.id
+
+pub verify_any-requires-clause-session : goal.verify_any-requires-clause-session
+verify_any-requires-clause-session g c = subst (λ xs. length xs ≤ 64) (sym (c.deref.ensures.value ∙ c.in_ok-session.ensures)) c.requires.session

@@ -1,4 +1,4 @@
-use Rattle.std.proofs.Common.{List, subst}
+use Rattle.std.proofs.Common.{List, subst, length, ap, ◌∙◌}
 use Rattle.lzk_cmd_verify.specs.Feeding.{JudgesFile}
 use Rattle.lzk_cmd_files.specs.Seen.{seen}
 use Rattle.lzk_cmd_files.specs.Walks.{Walks}
@@ -28,3 +28,12 @@ returns-in_err-publics-clause-reads g c = c.read_elements.ensures.reads
 
 pub returns-clause-reads : goal.returns-clause-reads
 returns-clause-reads g c = reads_then (seen g.S.Shelf c.args.shelf.now) (seen g.S.Shelf c.read_elements.new.shelf) (seen g.S.Shelf c.judge_file.new.shelf) c.read_elements.ensures.reads c.judge_file.ensures.reads
+
+pub judge_file-requires-clause-id : goal.judge_file-requires-clause-id
+judge_file-requires-clause-id g c κs within = c.requires.id
+
+pub judge_file-requires-clause-session : goal.judge_file-requires-clause-session
+judge_file-requires-clause-session g c κs within = c.requires.session
+
+pub judge_file-requires-clause-publics : goal.judge_file-requires-clause-publics
+judge_file-requires-clause-publics g c κs within = ap length c.deref.ensures.value ∙ c.in_ok-publics.ensures.count ∙ c.publics.ensures

@@ -37,3 +37,54 @@ returns-clause-all c =
 
 pub returns-clause-fresh : goal.returns-clause-fresh
 returns-clause-fresh c = dealt_nothing c.args.workers c.in-Ok.first.table c.loop-passes.first c.loop-passes.passes.items c.push-2.new.self.items c.in-Ok-push-2.ensures.items c.loop-passes.invariant
+
+pub returns-in_default-clause-jobs : goal.returns-in_default-clause-jobs
+returns-in_default-clause-jobs c = tt
+
+pub returns-in_default-clause-passes : goal.returns-in_default-clause-passes
+returns-in_default-clause-passes c = tt
+
+pub returns-in_default-clause-all : goal.returns-in_default-clause-all
+returns-in_default-clause-all c = tt
+
+pub returns-in_default-clause-fresh : goal.returns-in_default-clause-fresh
+returns-in_default-clause-fresh c = tt
+
+pub returns-in_default-with_capacity-clause-jobs : goal.returns-in_default-with_capacity-clause-jobs
+returns-in_default-with_capacity-clause-jobs c = tt
+
+pub returns-in_default-with_capacity-clause-passes : goal.returns-in_default-with_capacity-clause-passes
+returns-in_default-with_capacity-clause-passes c = tt
+
+pub returns-in_default-with_capacity-clause-all : goal.returns-in_default-with_capacity-clause-all
+returns-in_default-with_capacity-clause-all c = tt
+
+pub returns-in_default-with_capacity-clause-fresh : goal.returns-in_default-with_capacity-clause-fresh
+returns-in_default-with_capacity-clause-fresh c = tt
+
+pub returns-in_default-push-clause-jobs : goal.returns-in_default-push-clause-jobs
+returns-in_default-push-clause-jobs c = tt
+
+pub returns-in_default-push-clause-passes : goal.returns-in_default-push-clause-passes
+returns-in_default-push-clause-passes c = tt
+
+pub returns-in_default-push-clause-all : goal.returns-in_default-push-clause-all
+returns-in_default-push-clause-all c = tt
+
+pub returns-in_default-push-clause-fresh : goal.returns-in_default-push-clause-fresh
+returns-in_default-push-clause-fresh c = tt
+
+pub returns-in_default-push-2-clause-jobs : goal.returns-in_default-push-2-clause-jobs
+returns-in_default-push-2-clause-jobs c = tt
+
+pub returns-in_default-push-2-clause-passes : goal.returns-in_default-push-2-clause-passes
+returns-in_default-push-2-clause-passes c = tt
+
+pub returns-in_default-push-2-clause-all : goal.returns-in_default-push-2-clause-all
+returns-in_default-push-2-clause-all c = tt
+
+pub returns-in_default-push-2-clause-fresh : goal.returns-in_default-push-2-clause-fresh
+returns-in_default-push-2-clause-fresh c = tt
+
+pub returns-clause-jobs : goal.returns-clause-jobs
+returns-clause-jobs c = c.in-Ok.ensures.jobs
