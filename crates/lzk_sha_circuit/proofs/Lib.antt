@@ -30,5 +30,6 @@ pub mod Sizes
 pub mod MessagePlaces
 pub mod Messages
 pub mod Exactly
+pub mod OutputRows
 pub mod CircuitLaws
 pub mod SomeCircuits

@@ -22,30 +22,13 @@ use Rattle.lzk_sha_circuit.specs.declared.entries.Word.{Word}
 use Rattle.lzk_sha_circuit.specs.declared.entries.Word.TheVariants.{Schedule, A, E}
 use Rattle.lzk_sha_circuit.specs.Circuits.{SomeShaCircuit, SomeCompressionCircuit}
 use Rattle.lzk_sha_circuit.specs.Products.{AreWithin, products_value, or_list}
-use Rattle.lzk_sha_circuit.specs.Layers.{IsBuilt, Grows, IsWord, input_count, inner_count, turned_entry, pass_row, pair_rows, schedule_pairs, round_pairs, inner_rows, bit_row, w_row, a_row, e_row, f_row, digest_row, output_rows}
+use Rattle.lzk_sha_circuit.specs.Layers.{IsBuilt, Grows, IsWord, input_count, inner_count, turned_entry, pass_row, pair_rows, schedule_pairs, round_pairs, inner_rows, output_rows}
 use Rattle.lzk_sha_circuit.proofs.MessagePlaces.{message_placed}
 use Rattle.lzk_sha_circuit.proofs.CircuitLaws.{two_layers, layers_valid, layers_ones}
 use Rattle.lzk_sha_circuit.proofs.CircuitValues.{outputs_are}
 use Rattle.lzk_sha_circuit.proofs.Growth.{grown, grows_none, grows_two, built_from}
-use Rattle.lzk_sha_circuit.proofs.Within.{or_within, turned_within, bit_row_within, w_row_within, a_row_within, e_row_within, f_row_within, digest_row_within}
-
--- ---- rows whose products name wires of so many
-module _ {X : Type 0} (width : ℕ) where
-  abbrev AreAllWithin : List (List (Product X)) → Type 0
-  AreAllWithin [] = Unit {0}
-  AreAllWithin (ps ∷ rows) = AreWithin width ps × AreAllWithin rows
-
-  all-append : (rows more : List (List (Product X))) → AreAllWithin rows → AreAllWithin more → AreAllWithin (rows ++ more)
-  all-append [] more h k = k
-  all-append (ps ∷ rows) more h k = (h.0, all-append rows more h.1 k)
-
-  all-each : (f : ℕ → List (Product X)) (n a : ℕ) → ((i : ℕ) → a ≤ i → i < a + n → AreWithin width (f i)) → AreAllWithin (map f (range_with_len a n))
-  all-each f zero a h = tt
-  all-each f (suc n) a h = (h a (omega arith) (omega arith), all-each f n (a + 1) (λ i le lt. h i (omega (arith, le)) (omega (arith, lt))))
-
-  all-chunks : (f : ℕ → List (List (Product X))) (n a : ℕ) → ((i : ℕ) → a ≤ i → i < a + n → AreAllWithin (f i)) → AreAllWithin (flat_map f (range_with_len a n))
-  all-chunks f zero a h = tt
-  all-chunks f (suc n) a h = all-append (f a) (flat_map f (range_with_len (a + 1) n)) (h a (omega arith) (omega arith)) (all-chunks f n (a + 1) (λ i le lt. h i (omega (arith, le)) (omega (arith, lt))))
+use Rattle.lzk_sha_circuit.proofs.Within.{or_within, turned_within}
+use Rattle.lzk_sha_circuit.proofs.OutputRows.{AreAllWithin, all-append, all-each, all-chunks, output_within}
 
 -- ---- a layer of such rows
 module _ {X : Type 0} (o : Ops X) (r : RingLaws o) (f : FieldLaws o) (decide : ZeroOrNot o) where
@@ -119,21 +102,6 @@ module _ {X : Type 0} (o : Ops X) (element : ℕ → X) (given : Places) (ok : I
       (all-append (input_count given) (flat_map (schedule_pairs o element given) (range_with_len 16 48)) (flat_map (round_pairs o element given) (range_with_len 0 64))
       (all-chunks (input_count given) (schedule_pairs o element given) 48 16 (λ t le lt. schedule_within t le (omega (arith, lt))))
       (all-chunks (input_count given) (round_pairs o element given) 64 0 (λ t le lt. round_within t (omega (arith, lt)))))
-
-  output_within : AreAllWithin (inner_count given) (output_rows o element given)
-  unfolding output_rows
-  output_within =
-      let w = inner_count given in
-      let pair = λ (t : ℕ). a_row o element given t ∷ e_row o element given t ∷ [] in
-      let r0 = map (bit_row o) (range_with_len 0 (given.inputs + 6376)) in
-      let r1 = map (w_row o element given) (range_with_len 16 48) in
-      let r2 = flat_map pair (range_with_len 0 64) in
-      let r3 = map (f_row o element given) (range_with_len 0 8) in
-      let r4 = map (digest_row o element given) (range_with_len 0 8) in
-      all-append w r0 (r1 ++ (r2 ++ (r3 ++ r4))) (all-each w (bit_row o) (given.inputs + 6376) 0 (λ j le lt. bit_row_within o element given ok j (omega (arith, lt))))
-      (all-append w r1 (r2 ++ (r3 ++ r4)) (all-each w (w_row o element given) 48 16 (λ t le lt. w_row_within o element given ok t le (omega (arith, lt))))
-      (all-append w r2 (r3 ++ r4) (all-chunks w pair 64 0 (λ t le lt. (a_row_within o element given ok t (omega (arith, lt)), (e_row_within o element given ok t (omega (arith, lt)), tt))))
-      (all-append w r3 r4 (all-each w (f_row o element given) 8 0 (λ i le lt. f_row_within o element given ok i (omega (arith, lt)))) (all-each w (digest_row o element given) 8 0 (λ i le lt. digest_row_within o element given ok i (omega (arith, lt)))))))
 
 -- ---- the circuit
 

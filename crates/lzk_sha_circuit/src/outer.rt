@@ -1,9 +1,9 @@
 //! The outputs' layer.
 
-ghost use Rattle.std.specs.Prelude.{◌≡◌, ℕ, ◌<◌, ◌++◌, IfOk, OnOk};
+ghost use Rattle.std.specs.Prelude.{◌≡◌, ℕ, ◌+◌, ◌-◌, ◌/◌, ◌%◌, ◌<◌, nat_lt, if◌then◌else◌, ◌∷◌, [], ◌++◌, IfOk, OnOk};
 ghost use Rattle.lzk_goldilocks.specs.Elements.{ops, of_number};
 ghost use Rattle.lzk_sha_circuit.specs.Found.{places_of};
-ghost use Rattle.lzk_sha_circuit.specs.Layers.{IsBuilt, Grows, inner_count, last_word_of, bit_row, w_row};
+ghost use Rattle.lzk_sha_circuit.specs.Layers.{IsBuilt, Grows, inner_count, last_word_of, bit_row, w_row, row_at};
 ghost use Rattle.lzk_sha_circuit.specs.Layers.{first_list, a_row, e_row, f_row, digest_row, output_rows};
 
 use crate::entries::{Move, Word, wire_entry};
@@ -84,19 +84,27 @@ fn push_first(
     let t = round.t;
     let first = given.inputs + 9457 + 96 * t;
     let h = Placed { word: Word::E(t) };
-    push_worth(given, Gold::one(), h, products)?;
+    let Ok(()) = push_worth(given, Gold::one(), h, products) else {
+        return Err(AllocError);
+    };
     let e = Placed {
         word: Word::E(t + 3),
     };
-    push_or_word(given, Ors { first }, e, Move::Turned(25), products)?;
+    let Ok(()) = push_or_word(given, Ors { first }, e, Move::Turned(25), products) else {
+        return Err(AllocError);
+    };
     let f = Placed {
         word: Word::E(t + 2),
     };
     let g = Placed {
         word: Word::E(t + 1),
     };
-    push_ch(given, e, f, g, products)?;
-    products.push(number(ROUND_CONSTANTS[t as usize]))?;
+    let Ok(()) = push_ch(given, e, f, g, products) else {
+        return Err(AllocError);
+    };
+    let Ok(()) = products.push(number(ROUND_CONSTANTS[t as usize])) else {
+        return Err(AllocError);
+    };
     let schedule = Placed {
         word: Word::Schedule(t),
     };
@@ -191,6 +199,62 @@ fn digest_products(
     products.extend_from_slice(&[linear(Gold::one().neg(), wire_entry(1 + of.i))])
 }
 
+// Output `k` of those of the rounds: A's and E's in turn.
+fn round_products(
+    given: &Given,
+    k: u32,
+    products: &mut Vec<Product<Gold>>,
+) -> Result<(), AllocError>
+    requires { k < 128 }
+    ensures { let place = places_of given.now in
+        OnOk result (products.new.items
+        ≡ row_at (a_row ops of_number place (k / 2) ∷ e_row ops of_number place (k / 2) ∷ []) (k % 2)) }
+{
+    let round = Round { t: k / 2 };
+    if k % 2 == 0 {
+        a_products(given, round, products)
+    } else {
+        e_products(given, round, products)
+    }
+}
+
+// Output `k` of those of the digest.
+fn last_products(given: &Given, k: u32, products: &mut Vec<Product<Gold>>) -> Result<(), AllocError>
+    requires { k < 16 }
+    ensures { let place = places_of given.now in
+        OnOk result (products.new.items
+        ≡ (if nat_lt k 8 then f_row ops of_number place k else digest_row ops of_number place (k - 8))) }
+{
+    if k < 8 {
+        f_products(given, StateWord { i: k }, products)
+    } else {
+        digest_products(given, StateWord { i: k - 8 }, products)
+    }
+}
+
+// Output `k`.
+fn output_products(
+    given: &Given,
+    k: u32,
+    products: &mut Vec<Product<Gold>>,
+) -> Result<(), AllocError>
+    requires { k < given.now.inputs + 6568 }
+    ensures { OnOk result (products.new.items ≡ row_at (output_rows ops of_number (places_of given.now)) k) }
+{
+    let privates = given.inputs + 6376;
+    if k < privates {
+        return bit_products(k, products);
+    }
+    let at = k - privates;
+    if at < 48 {
+        w_products(given, LaterRound { t: 16 + at }, products)
+    } else if at < 176 {
+        round_products(given, at - 48, products)
+    } else {
+        last_products(given, at - 176, products)
+    }
+}
+
 // Appends the terms of the outputs' layer, by a list for the products of one wire.
 fn push_outputs(
     alloc: Global,
@@ -201,28 +265,9 @@ fn push_outputs(
     ensures { OnOk result (Grows ops (inner_count (places_of given.now)) 0 terms.old.items
         (output_rows ops of_number (places_of given.now)) terms.new.items) }
 {
-    let privates = given.inputs + 6376;
-    for j in 0..privates {
-        bit_products(j, products)?;
-        push_row(alloc, j, products, terms)?;
-    }
-    for t in 16..64 {
-        w_products(given, LaterRound { t }, products)?;
-        push_row(alloc, privates + (t - 16), products, terms)?;
-    }
-    for round in 0..64 {
-        a_products(given, Round { t: round }, products)?;
-        push_row(alloc, privates + 48 + 2 * round, products, terms)?;
-        e_products(given, Round { t: round }, products)?;
-        push_row(alloc, privates + 49 + 2 * round, products, terms)?;
-    }
-    for i in 0..8 {
-        f_products(given, StateWord { i }, products)?;
-        push_row(alloc, privates + 176 + i, products, terms)?;
-    }
-    for k in 0..8 {
-        digest_products(given, StateWord { i: k }, products)?;
-        push_row(alloc, privates + 184 + k, products, terms)?;
+    for k in 0..given.inputs + 6568 {
+        output_products(given, k, products)?;
+        push_row(alloc, k, products, terms)?;
     }
     Ok(())
 }

@@ -34,8 +34,8 @@ returns c =
     let p5 = c.push_worth-2.new.products.items in
     on_ok_weaker c.push_worth-2.result
     (λ (h : p5 ≡ p4 ++ worth_list ops of_number c.one-2.result 32 (word (Schedule t))).
-    more_of p0 p1 p5 x1 (x2 ++ (x3 ++ (x4 ++ x5))) (c.in_ok-push_worth.ensures ∙ ap (λ v. p0 ++ worth_list ops of_number v 32 (word (E t))) c.one.ensures)
-    (more_of p1 p2 p5 x2 (x3 ++ (x4 ++ x5)) (c.in_ok-push_or_word.ensures ∙ ap (λ (n : ℕ). p1 ++ or_word_list ops of_number (λ i. wire_entry ops (n + i)) turned) (later given.inputs (96 * t)))
-    (more_of p2 p3 p5 x3 (x4 ++ x5) c.in_ok-push_ch.ensures
-    (more_of p3 p4 p5 x4 x5 (c.in_ok-push.ensures.items ∙ ap (λ p. p3 ++ p ∷ []) c.number.ensures) (h ∙ ap (λ v. p4 ++ worth_list ops of_number v 32 (word (Schedule t))) c.one-2.ensures)))))
+    more_of p0 p1 p5 x1 (x2 ++ (x3 ++ (x4 ++ x5))) (c.in-Ok.ensures ∙ ap (λ v. p0 ++ worth_list ops of_number v 32 (word (E t))) c.one.ensures)
+    (more_of p1 p2 p5 x2 (x3 ++ (x4 ++ x5)) (c.in-Ok-push_or_word.ensures ∙ ap (λ (n : ℕ). p1 ++ or_word_list ops of_number (λ i. wire_entry ops (n + i)) turned) (later given.inputs (96 * t)))
+    (more_of p2 p3 p5 x3 (x4 ++ x5) c.in-Ok-push_ch.ensures
+    (more_of p3 p4 p5 x4 x5 (c.in-Ok-push.ensures.items ∙ ap (λ p. p3 ++ p ∷ []) c.number.ensures) (h ∙ ap (λ v. p4 ++ worth_list ops of_number v 32 (word (Schedule t))) c.one-2.ensures)))))
     c.push_worth-2.ensures
