@@ -1,7 +1,5 @@
 -- Counts that stand still, and counts that rise.
-use Rattle.std.proofs.Common.{◌≡◌, ◌≤◌, ℕ, List, [], ◌∷◌, Result, Ok, Err, ap, arith}
-use Rattle.std.specs.Prelude.{Contains, IsTrue}
-use Rattle.lzk_outside.specs.Memory.{Settings, SinkSettings, is_empty, next_settings, next_sink_settings}
+use Rattle.std.proofs.Common.{◌≡◌, ◌≤◌, ℕ, Result, Ok, Err, ap, arith}
 use Rattle.lzk_outside.specs.Outside.{Counts, counted, last_count}
 use Rattle.lzk_outside.specs.Tallies.{Tally}
 use Rattle.lzk_outside.specs.declared.outside.ShelfFault.{ShelfFault}
@@ -45,17 +43,6 @@ count_rises n now fits is = record {
   count = omega (arith, is);
   rose = λ p. record { later = omega (arith, fits, is); more = omega (arith, is); count = omega (arith, is) };
 }
-
--- no number stands in an empty list
-pub none_stands : (calls : List ℕ) (n : ℕ) → IsTrue (is_empty calls) → Contains calls n → ⊥
-none_stands [] n none there = let lt = there.1 in omega (arith, lt)
-none_stands (call ∷ calls) n none there = cc
-
-pub one_call : (s : Settings) (n : ℕ) → n ≡ counted s.calls → record s { calls = n } ≡ next_settings s
-one_call s n is = ap (λ m. record s { calls = m }) is
-
-pub one_write : (s : SinkSettings) (n : ℕ) → n ≡ counted s.calls → record s { calls = n } ≡ next_sink_settings s
-one_write s n is = ap (λ m. record s { calls = m }) is
 
 pub one_failure : (t : Tally) (n : ℕ) → n ≡ counted t.read_faults → record t { read_faults = n } ≡ record t { read_faults = counted t.read_faults }
 one_failure t n is = ap (λ m. record t { read_faults = m }) is

@@ -1,5 +1,3 @@
-pub mod Memory
 pub mod Outside
 pub mod Real
 pub mod Tallies
-pub mod Texts

@@ -5,7 +5,7 @@ ghost use Rattle.std.specs.Prelude.{◌<◌};
 use crate::case::{Case, are_kept, is_expected, name_of, shelf_of};
 use lzk_cmd::run;
 use lzk_field::Open;
-use lzk_outside::{MemShelf, MemSink};
+use lzk_outside_memory::{MemShelf, MemSink};
 use std::alloc::{AllocError, Global};
 use std::marker::Sync;
 use std::thread::Threads;

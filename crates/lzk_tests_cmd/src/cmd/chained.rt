@@ -1,14 +1,14 @@
 //! Two runs in a row, by their contracts alone.
 
 ghost use Rattle.std.specs.Prelude.{◌≡◌, ◌⊎◌, IsTrue};
-ghost use Rattle.lzk_outside.specs.Memory.{files_of, settings_of, none_fails, sink_settings_of, no_write_fails};
+ghost use Rattle.lzk_outside_memory.specs.Memory.{files_of, settings_of, none_fails, sink_settings_of, no_write_fails};
 ghost use Rattle.lzk_cmd.specs.Chains.{AreChained};
 ghost use Rattle.lzk_cmd.specs.Sights.{texts};
 
 use crate::cmd::runs::words_of;
 use lzk_cmd::run;
 use lzk_field::Open;
-use lzk_outside::{MemShelf, MemSink};
+use lzk_outside_memory::{MemShelf, MemSink};
 use std::alloc::{AllocError, Global};
 use std::marker::Sync;
 use std::test::Fail;

@@ -1,7 +1,7 @@
 //! Two workers that wait for each other.
 
 use crate::cmd::runs::status_of;
-use lzk_outside::MemShelf;
+use lzk_outside_memory::MemShelf;
 use lzk_tests_shared::{Meeting, SQUARE_FILE};
 use std::alloc::{AllocError, Global};
 use std::marker::Sync;

@@ -2,7 +2,7 @@
 
 use lzk_cmd::run;
 use lzk_field::Gate;
-use lzk_outside::{MemShelf, MemSink};
+use lzk_outside_memory::{MemShelf, MemSink};
 use std::alloc::{AllocError, Global};
 use std::marker::Sync;
 use std::thread::Threads;

@@ -1,8 +1,7 @@
 //! That each call succeeds where there is memory, and what no clause can say: files of the system
 //! and standard output. Each trait is called through its bound.
-use lzk_outside::{
-    DiskShelf, MemShelf, MemSink, PutFault, Shelf, ShelfFault, Sink, SinkFault, StdoutSink,
-};
+use lzk_outside::{DiskShelf, PutFault, Shelf, ShelfFault, Sink, SinkFault, StdoutSink};
+use lzk_outside_memory::{MemShelf, MemSink};
 use std::alloc::{AllocError, Global};
 use std::fs;
 use std::test::Fail;

@@ -5,7 +5,7 @@ use crate::policy::texts::read;
 use lzk_circuit::Circuit;
 use lzk_field::Field;
 use lzk_goldilocks::Gold;
-use lzk_outside::MemShelf;
+use lzk_outside_memory::MemShelf;
 use lzk_policy_inputs::{
     PolicyInputs, Value, credential_circuit, has_room, policy_inputs, satisfied_circuit,
 };

@@ -6,7 +6,7 @@ use crate::policy::files::{
 };
 use lzk_credential_run::run;
 use lzk_field::Open;
-use lzk_outside::{MemShelf, MemSink};
+use lzk_outside_memory::{MemShelf, MemSink};
 use sha2::{Digest, Sha256};
 use std::alloc::{AllocError, Global};
 use std::marker::Sync;

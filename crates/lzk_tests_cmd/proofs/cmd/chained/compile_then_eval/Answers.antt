@@ -1,5 +1,5 @@
 use Rattle.std.proofs.Common.{inl, inr, refl, ◌∙◌, arith}
-use Rattle.lzk_outside.specs.Memory.{files_of, bytes_of}
+use Rattle.lzk_outside_memory.specs.Memory.{files_of, bytes_of}
 use Rattle.lzk_cmd.specs.Sights.{texts}
 use Rattle.lzk_cmd_words.specs.Words.{Eval, Compile}
 use Rattle.lzk_tests_cmd.proofs.ChainLaws.{no_fault, done_or_memory, chained}

@@ -1,10 +1,10 @@
 -- What the shelf and the sink in memory hold, which of their calls fail, and what they count.
 use Rattle.std.specs.Prelude.{◌≡◌, take, Option, Some, None, Result, Ok, Err, Contains, Bool, true, false, ℕ, List, [], ◌∷◌, unwrap_or}
-use Rattle.lzk_outside.specs.Texts.{text_files}
+use Rattle.lzk_outside_memory.specs.Texts.{text_files}
 use Rattle.lzk_outside.specs.Outside.{Files, with_file, counted}
 use Rattle.lzk_outside.specs.Tallies.{Tally}
-use Rattle.lzk_outside.specs.declared.memory.MemShelf.{MemShelf}
-use Rattle.lzk_outside.specs.declared.memory.MemSink.{MemSink}
+use Rattle.lzk_outside_memory.specs.declared.memory.MemShelf.{MemShelf}
+use Rattle.lzk_outside_memory.specs.declared.memory.MemSink.{MemSink}
 use Rattle.lzk_outside.specs.declared.outside.PutFault.{PutFault}
 use Rattle.lzk_outside.specs.declared.outside.PutFault.TheVariants as put
 use Rattle.lzk_outside.specs.declared.outside.SinkFault.{SinkFault}

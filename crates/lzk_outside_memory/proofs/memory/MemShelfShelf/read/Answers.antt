@@ -1,8 +1,9 @@
 use Rattle.std.proofs.Common.{rules, ◌≤◌, refl, arith}
-use Rattle.lzk_outside.specs.Memory.{IsFailing, settings_of, tally_of}
+use Rattle.lzk_outside_memory.specs.Memory.{IsFailing, settings_of, tally_of}
 use Rattle.lzk_outside.specs.Outside.{last_count}
-use Rattle.lzk_outside.proofs.Counting.{ok_is_no_fault, failed_is_not_missing, failed_has_memory, missing_is_not_failed, missing_has_memory, count_stays, count_rises, none_stands, one_call, one_failure, one_miss}
-use Rattle.lzk_outside.proofs.memory.MemShelfShelf.read.Goals as goal
+use Rattle.lzk_outside.proofs.Counting.{ok_is_no_fault, failed_is_not_missing, failed_has_memory, missing_is_not_failed, missing_has_memory, count_stays, count_rises, one_failure, one_miss}
+use Rattle.lzk_outside_memory.proofs.Calls.{none_stands, one_call}
+use Rattle.lzk_outside_memory.proofs.memory.MemShelfShelf.read.Goals as goal
 
 pub returns-then-contains : goal.returns-then-contains
 returns-then-contains c =

@@ -4,9 +4,9 @@ ghost use Rattle.std.specs.Prelude.{◌≢◌, ◌↔◌, ◌≡◌, ◌<◌, �
 ghost use Rattle.std.specs.Option.{option_copied};
 ghost use Rattle.lzk_outside.specs.Outside.{no_files, with_file, ReadsFrom, Reads, Holds, Torn, Appends, Counts};
 ghost use Rattle.lzk_outside.specs.Tallies.{no_tally, tally_after_read, tally_after_put, faults_after_write};
-ghost use Rattle.lzk_outside.specs.Texts.{text_files};
+ghost use Rattle.lzk_outside_memory.specs.Texts.{text_files};
 
-use crate::outside::{PutFault, Shelf, ShelfFault, Sink, SinkFault};
+use lzk_outside::{PutFault, Shelf, ShelfFault, Sink, SinkFault};
 use std::alloc::{AllocError, Global};
 use std::collections::BTreeMap;
 
@@ -89,7 +89,7 @@ fn set_file(
 }
 
 impl MemShelf {
-    ghost use Rattle.lzk_outside.specs.Memory.{files_of, settings_of, tally_of};
+    ghost use Rattle.lzk_outside_memory.specs.Memory.{files_of, settings_of, tally_of};
 
     /// A shelf that holds nothing and has counted nothing. The calls whose numbers are in `failing`
     /// will fail. Such a put leaves the old state, or where `tear` is given the first `tear` bytes of
@@ -130,8 +130,8 @@ impl MemShelf {
 }
 
 impl Shelf for MemShelf {
-    ghost use Rattle.lzk_outside.specs.Memory.{files_of, settings_of, tally_of, bytes_under, none_fails, IsFailing};
-    ghost use Rattle.lzk_outside.specs.Memory.{TornFiles, next_settings, settings_after_put};
+    ghost use Rattle.lzk_outside_memory.specs.Memory.{files_of, settings_of, tally_of, bytes_under, none_fails, IsFailing};
+    ghost use Rattle.lzk_outside_memory.specs.Memory.{TornFiles, next_settings, settings_after_put};
 
     ghost held = { λ s. Some (files_of s) };
 
@@ -246,7 +246,7 @@ impl Shelf for MemShelf {
 }
 
 impl MemSink {
-    ghost use Rattle.lzk_outside.specs.Memory.{bytes_of, sink_settings_of, faults_of};
+    ghost use Rattle.lzk_outside_memory.specs.Memory.{bytes_of, sink_settings_of, faults_of};
 
     /// A sink that has written nothing and counted nothing. The writes whose numbers are in `failing`
     /// will fail, and one write takes at most `most` bytes.
@@ -274,7 +274,7 @@ impl MemSink {
 }
 
 impl Sink for MemSink {
-    ghost use Rattle.lzk_outside.specs.Memory.{bytes_of, sink_settings_of, faults_of, no_write_fails, IsFailingWrite, settings_after_write};
+    ghost use Rattle.lzk_outside_memory.specs.Memory.{bytes_of, sink_settings_of, faults_of, no_write_fails, IsFailingWrite, settings_after_write};
 
     ghost written = { λ s. Some (bytes_of s) };
 

@@ -1,8 +1,9 @@
 use Rattle.std.proofs.Common.{rules, ◌≤◌, refl, arith}
-use Rattle.lzk_outside.specs.Memory.{settings_of}
+use Rattle.lzk_outside_memory.specs.Memory.{settings_of}
 use Rattle.lzk_outside.specs.Outside.{last_count}
-use Rattle.lzk_outside.proofs.Counting.{ok_is_no_fault, no_memory_is_no_failed_put, failed_put_has_memory, count_stays, one_call}
-use Rattle.lzk_outside.proofs.memory.MemShelfShelf.put.Goals as goal
+use Rattle.lzk_outside.proofs.Counting.{ok_is_no_fault, no_memory_is_no_failed_put, failed_put_has_memory, count_stays}
+use Rattle.lzk_outside_memory.proofs.Calls.{one_call}
+use Rattle.lzk_outside_memory.proofs.memory.MemShelfShelf.put.Goals as goal
 
 pub returns-then-is_err : goal.returns-then-is_err
 returns-then-is_err c =

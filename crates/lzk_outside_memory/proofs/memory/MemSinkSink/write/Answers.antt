@@ -1,8 +1,9 @@
 use Rattle.std.proofs.Common.{rules, ◌≤◌, refl, arith}
-use Rattle.lzk_outside.specs.Memory.{sink_settings_of}
+use Rattle.lzk_outside_memory.specs.Memory.{sink_settings_of}
 use Rattle.lzk_outside.specs.Outside.{last_count}
-use Rattle.lzk_outside.proofs.Counting.{ok_is_no_fault, no_memory_is_no_failed_write, count_stays, one_write}
-use Rattle.lzk_outside.proofs.memory.MemSinkSink.write.Goals as goal
+use Rattle.lzk_outside.proofs.Counting.{ok_is_no_fault, no_memory_is_no_failed_write, count_stays}
+use Rattle.lzk_outside_memory.proofs.Calls.{one_write}
+use Rattle.lzk_outside_memory.proofs.memory.MemSinkSink.write.Goals as goal
 
 pub returns-then-is_err : goal.returns-then-is_err
 returns-then-is_err c =
