@@ -148,15 +148,16 @@ pub use lzk_batch::{AnyVerdict, Job, JobOf, verify_all};
 pub use lzk_circbytes::{AnyCircuit, DecodeError, decode, encode, id};
 pub use lzk_circuit::Circuit;
 pub use lzk_circuit_beside::{AnyPart, BesideError, Part, beside, beside_any};
-pub use lzk_expr::{NumberError, Source, SourceError, parse, read_numbers};
+pub use lzk_expr::{NumberError, Source, SourceError, read_numbers};
 pub use lzk_field::{Field, Gate, Open, Seeded, Words};
 pub use lzk_gadgets::{Statement, assert_circuit, private_nodes, public_nodes};
 pub use lzk_gf128::Gf128;
 pub use lzk_goldilocks::{Drawn, Gold};
-pub use lzk_level::{LevelError, Node, compile, compile_v2};
+pub use lzk_level::{LevelError, Node};
 pub use lzk_ligero::Unsatisfied;
 use lzk_ligero::WorksOver;
 use lzk_poly_ntt::NttExtender;
+pub use lzk_source::{compile, compile_v2, parse, values};
 pub use lzk_verify::{Desk as Verifier, Verdict};
 
 /// A prover over a circuit over the prime field, with the fastest extension of rows. Its random words are to be those

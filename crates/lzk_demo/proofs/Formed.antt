@@ -4,7 +4,7 @@ use Rattle.std.specs.Prelude.{count_by}
 use Rattle.lzk_expr.specs.declared.ast.FieldId.TheVariants.{Goldilocks}
 use Rattle.lzk_expr.specs.Readers.{is_define}
 use Rattle.lzk_expr.specs.Trees.{Expr, PublicInput, PrivateInput, Named, Statement, DeclarePublic, DeclarePrivate, Define, Assertion, name_of, is_private, is_assertion}
-use Rattle.lzk_expr.specs.declared.printing.Place.TheVariants as place
+use Rattle.lzk_expr.specs.declared.place.Place.TheVariants as place
 use Rattle.lzk_expr.specs.Built.{Good, Leaf, expr_depth, GoodExpr, BuiltFrom, IsBuilt}
 use Rattle.lzk_expr.proofs.Tables.{count_more}
 use Rattle.lzk_demo.proofs.Declared.{let_known, let_new, let_here, private_known, private_new, private_here}

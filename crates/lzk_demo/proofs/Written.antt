@@ -7,8 +7,8 @@ use Rattle.std.proofs.lemmas.List.{length-append, append-nil}
 use Rattle.std.proofs.lemmas.Grind.{flat_map-append}
 use Rattle.std.proofs.lemmas.Fmt.{decimal_digit}
 use Rattle.std.proofs.Math.Seq.{drop-cons}
-use Rattle.lzk_expr.specs.declared.printing.Place.{Place}
-use Rattle.lzk_expr.specs.declared.printing.Place.TheVariants as place
+use Rattle.lzk_expr.specs.declared.place.Place.{Place}
+use Rattle.lzk_expr.specs.declared.place.Place.TheVariants as place
 use Rattle.lzk_expr.specs.Built.{IsBuilt}
 use Rattle.lzk_expr.specs.Sources.{IsWellFormed}
 use Rattle.lzk_expr.specs.Trees.{PublicInput, Statement, Define, Assertion}

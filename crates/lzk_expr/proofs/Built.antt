@@ -7,8 +7,8 @@ use Rattle.std.proofs.lemmas.Bool.Decides.{nat_tests}
 use Rattle.std.proofs.lemmas.List.{append-nil, length-map}
 use Rattle.std.proofs.lemmas.List.Folds.{list_all-append}
 use Rattle.lzk_profile.specs.Profile.{most_privates}
-use Rattle.lzk_expr.specs.declared.heads.Input.{Input}
-use Rattle.lzk_expr.specs.declared.heads.Input.TheVariants as inputs
+use Rattle.lzk_expr.specs.declared.coder.Input.{Input}
+use Rattle.lzk_expr.specs.declared.coder.Input.TheVariants as inputs
 use Rattle.lzk_expr.specs.declared.tokens.Keyword.{Keyword}
 use Rattle.lzk_expr.specs.declared.tokens.Keyword.TheVariants as keys
 use Rattle.lzk_expr.specs.declared.source_fault.SourceKind.{SourceKind}

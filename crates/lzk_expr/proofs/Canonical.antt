@@ -5,8 +5,8 @@ use Rattle.std.specs.List.{list_all}
 use Rattle.std.proofs.lemmas.List.{append-nil}
 use Rattle.std.proofs.lemmas.List.Folds.{list_all-append}
 use Rattle.std.proofs.lemmas.Bool.{and_parts}
-use Rattle.lzk_expr.specs.declared.printing.Place.{Place}
-use Rattle.lzk_expr.specs.declared.printing.Place.TheVariants as place
+use Rattle.lzk_expr.specs.declared.place.Place.{Place}
+use Rattle.lzk_expr.specs.declared.place.Place.TheVariants as place
 use Rattle.lzk_expr.specs.Grammar as g
 use Rattle.lzk_expr.specs.Trees.{Expr, Number, PublicInput, PrivateInput, Named, Neg, Added, Multiplied, Parts, NoPart, part, Exprs, NoExpr, factor, add_part, add_factor, sum_means, sum_parts, product_means, product_factors, factor_means, atom_means}
 use Rattle.lzk_expr.specs.Printing.{Names, expr_text, parts_text, factors_text, in_parentheses, closed_sum, closed_product, closed_negative}

@@ -8,7 +8,7 @@ use Rattle.std.proofs.lemmas.List.{at_drop_more}
 use Rattle.lzk_expr.specs.declared.coder.Coder.{Coder}
 use Rattle.lzk_expr.specs.declared.names.Names.{Names}
 use Rattle.lzk_expr.specs.declared.names.Binding.TheVariants as binding
-use Rattle.lzk_expr.specs.declared.heads.Input.{Input}
+use Rattle.lzk_expr.specs.declared.coder.Input.{Input}
 use Rattle.lzk_expr.specs.declared.tokens.Keyword.{Keyword}
 use Rattle.lzk_expr.specs.declared.tokens.Keyword.TheVariants as keys
 use Rattle.lzk_expr.specs.declared.tokens.Symbol.{Symbol}
@@ -25,8 +25,7 @@ use Rattle.lzk_expr.specs.Trees.{Statement, DeclarePublic, DeclarePrivate, name_
 use Rattle.lzk_expr.specs.Sources.{Before, form_read, first_keyword, keeps_limits, is_field, is_few, is_short, is_shallow}
 use Rattle.lzk_expr.specs.Table.{found}
 use Rattle.lzk_expr.specs.Readers.{is_define, step_of, StepReads, is_name, key_of, input_statement, keeps_bounds}
-use Rattle.lzk_expr.specs.Heads.{with_name, symbol_names}
-use Rattle.lzk_expr.specs.SymbolForms.{is_name_symbol}
+use Rattle.lzk_expr.specs.SymbolForms.{is_name_symbol, with_name, symbol_names}
 use Rattle.lzk_expr.specs.Coders.{IsCoder, with_statement, TakesCode, TakesCodeLine, TakesTextLine, has_room, names_broken_by, refused_by}
 use Rattle.lzk_expr.proofs.CodeLaws.{code_public, code_private}
 use Rattle.lzk_expr.proofs.CodeLengths.{is_zero}

@@ -7,8 +7,8 @@ use Rattle.lzk_expr.specs.Tokens as token
 use Rattle.lzk_expr.specs.Grammar as g
 use Rattle.lzk_expr.specs.Trees.{Expr, Number, PublicInput, PrivateInput, Named, Neg, Added, Multiplied, Parts, NoPart, part, Exprs, NoExpr, factor, add_part, add_factor, sum_means, sum_parts, product_means, product_factors, factor_means, atom_means, Statement, DeclarePublic, DeclarePrivate, Define, Assertion, declared_from, meaning, or_zero}
 use Rattle.lzk_expr.specs.Sources.{is_shallow}
-use Rattle.lzk_expr.specs.declared.printing.Place.{Place}
-use Rattle.lzk_expr.specs.declared.printing.Place.TheVariants as place
+use Rattle.lzk_expr.specs.declared.place.Place.{Place}
+use Rattle.lzk_expr.specs.declared.place.Place.TheVariants as place
 use Rattle.lzk_expr.specs.Printing.{Names, closed_sum, closed_product, closed_negative}
 use Rattle.lzk_expr.specs.Built.{closed_depth, expr_depth, parts_depth, factors_depth}
 use Rattle.lzk_expr.proofs.Canonical.{Forms, from_atom, from_factor, from_product, from_sum, forms, first_sum, sum_onto, first_product, product_onto, signed}

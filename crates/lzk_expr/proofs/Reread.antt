@@ -1,5 +1,5 @@
 -- What is printed of a source reads as it.
-use Rattle.std.proofs.Common.{◌≡◌, ℕ, suc, ◌+◌, ◌-◌, ◌≤◌, ◌<◌, ◌^◌, Bool, true, false, cond, not, ◌&&◌, List, [], ◌∷◌, ◌++◌, length, take, Option, Some, None, is_some, Ok, Result, refl, sym, ◌∙◌, ap, ap₂, append_assoc, arith, bytes_eq, subst, lit≤, MatchResult}
+use Rattle.std.proofs.Common.{◌≡◌, ℕ, suc, ◌+◌, ◌-◌, ◌≤◌, ◌<◌, ◌^◌, Bool, true, false, cond, not, ◌&&◌, List, [], ◌∷◌, ◌++◌, length, take, Option, Some, None, is_some, Ok, Result, refl, sym, ◌∙◌, ap, ap₂, append_assoc, arith, bytes_eq, subst, lit≤}
 use Rattle.std.specs.Prelude.{nat_le, nat_lt, count_by, codes, slice_index_or}
 use Rattle.std.specs.List.{list_all, list_any, flat_map, onto_first, position_or_len}
 use Rattle.std.proofs.lemmas.Bool.{and_parts, lt-ltb}
@@ -12,24 +12,20 @@ use Rattle.lzk_expr.specs.declared.tokens.Keyword.{Keyword}
 use Rattle.lzk_expr.specs.declared.tokens.Keyword.TheVariants as keys
 use Rattle.lzk_expr.specs.declared.source_fault.SourceKind.{SourceKind}
 use Rattle.lzk_expr.specs.declared.source_fault.SourceFault.{SourceFault}
-use Rattle.lzk_expr.specs.declared.source_fault.SourceError.{SourceError}
-use Rattle.lzk_expr.specs.declared.source_fault.SourceError.TheVariants as errors
 use Rattle.lzk_expr.specs.declared.ast.FieldId.{FieldId}
 use Rattle.lzk_expr.specs.declared.ast.FieldId.TheVariants as fields
-use Rattle.lzk_expr.specs.declared.printing.Place.TheVariants as place
+use Rattle.lzk_expr.specs.declared.place.Place.TheVariants as place
 use Rattle.lzk_expr.specs.Texts.{lines, content, is_feed, is_hash}
 use Rattle.lzk_expr.specs.Tokens.{Token, tokens, word_token, in_word, pieces, keeps_characters, is_empty_line, is_sign}
 use Rattle.lzk_expr.specs.Tokens as token
 use Rattle.lzk_expr.specs.Grammar as g
 use Rattle.lzk_expr.specs.Grammar.{Line, FieldLine, PublicLine, PrivateLine, LetLine, AssertLine, line_tokens, IsForm, field_name}
 use Rattle.lzk_expr.specs.Trees.{Expr, Number, PublicInput, PrivateInput, Named, Neg, Added, Multiplied, Statement, DeclarePublic, DeclarePrivate, Define, Assertion, SourceTree, declared_from, name_of, meaning, or_zero, sum_means, is_public, is_private, is_assertion}
-use Rattle.lzk_expr.specs.Sources.{Before, nothing_yet, first_keyword, is_short, is_shallow, is_few, keeps_limits, is_new, line_names, line_numbers, field_size, after, line_read, LineAt, LinesRead, ended, SourceText, IsFirstSourceFault, IsWellFormed}
+use Rattle.lzk_expr.specs.Sources.{Before, nothing_yet, first_keyword, is_short, is_shallow, is_few, keeps_limits, is_new, line_names, line_numbers, field_size, after, line_read, LineAt, LinesRead, ended, SourceText, IsWellFormed}
 use Rattle.lzk_expr.specs.Printing.{Names, names_of, public_names, private_names, let_names, expr_text, statement_text, statement_line, source_text}
-use Rattle.lzk_expr.specs.View.{Held, tree_of}
 use Rattle.lzk_expr.specs.Built.{IsNameWord, Good, Leaf, GoodExpr, Fits, BuiltFrom, IsBuilt}
 use Rattle.lzk_expr.proofs.Tables.{same_bytes}
 use Rattle.lzk_expr.proofs.Taken.{line_read_at, form_at, form_good}
-use Rattle.lzk_expr.proofs.TextLaws.{only_source}
 use Rattle.lzk_expr.proofs.Lexed.{sum_text, SumHas, ProductHas, FactorHas, AtomHas, IsPrinted, is_printed, name_lexed, sum_lexed, sum_characters, is_character, word_characters, joined_characters, lex_equals, lex_public, lex_private, lex_let, lex_assert}
 use Rattle.lzk_expr.proofs.Canonical.{good_map, forms, expr_printed, sum_has, atom_has, same_sum, atom_is}
 use Rattle.lzk_expr.proofs.Depths.{sum_depth, sum_shallow, form_shallow}
@@ -515,7 +511,3 @@ built_reads s b =
 -- the text of a source reads as it
 pub printed_reads : (s : SourceTree) → IsWellFormed s → SourceText (source_text s) s
 printed_reads s h = built_reads s (is_built s h)
-
--- so a text that is a built source's is no other's
-pub only_built : (text : List ℕ) (r : Result Held SourceError) → MatchResult r (λ s. SourceText text (tree_of s)) (IsFirstSourceFault text) → (s : SourceTree) → IsBuilt s → text ≡ source_text s → MatchResult r (λ t. tree_of t ≡ s) (λ e. e ≡ errors.OutOfMemory)
-only_built text r h s b e = only_source text r h s (subst (λ (l : List ℕ). SourceText l s) (sym e) (built_reads s b))

@@ -5,8 +5,8 @@ use Rattle.std.proofs.lemmas.List.{append-nil}
 use Rattle.std.specs.HashMap.{HashMap}
 use Rattle.lzk_expr.specs.declared.names.Binding.{Binding}
 use Rattle.lzk_expr.specs.declared.names.Binding.TheVariants as binding
-use Rattle.lzk_expr.specs.declared.heads.Input.{Input}
-use Rattle.lzk_expr.specs.declared.heads.Input.TheVariants as inputs
+use Rattle.lzk_expr.specs.declared.coder.Input.{Input}
+use Rattle.lzk_expr.specs.declared.coder.Input.TheVariants as inputs
 use Rattle.lzk_expr.specs.declared.tokens.Keyword.{Keyword}
 use Rattle.lzk_expr.specs.declared.source_fault.SourceKind.{SourceKind}
 use Rattle.lzk_expr.specs.declared.source_fault.SourceKind.TheVariants as kinds

@@ -1,5 +1,5 @@
 -- A text line by line, and that it reads in one way only.
-use Rattle.std.proofs.Common.{◌≡◌, ℕ, ◌+◌, ◌≤◌, Bool, true, false, cond, ◌||◌, List, [], ◌∷◌, length, Option, Some, None, Ok, Err, Result, refl, sym, ◌∙◌, ap, arith, subst, MatchResult}
+use Rattle.std.proofs.Common.{◌≡◌, ℕ, ◌+◌, ◌≤◌, Bool, true, false, cond, ◌||◌, List, [], ◌∷◌, length, Option, Some, None, Ok, Err, Result, refl, sym, ◌∙◌, ap, arith, subst}
 use Rattle.std.specs.Prelude.{count_by}
 use Rattle.std.specs.List.{list_any}
 use Rattle.std.proofs.lemmas.List.Sums.{sum_by-cons}
@@ -13,7 +13,6 @@ use Rattle.lzk_expr.specs.Texts.{lines, content}
 use Rattle.lzk_expr.specs.Tokens.{tokens, is_empty_line}
 use Rattle.lzk_expr.specs.Trees.{SourceTree, is_assertion}
 use Rattle.lzk_expr.specs.Sources.{Before, nothing_yet, line_read, LineReads, LineThen, LineAt, LinesRead, ended, ended_read, TextReads, SourceText, IsFirstSourceFault}
-use Rattle.lzk_expr.specs.View.{Held, tree_of}
 use Rattle.lzk_expr.specs.Readers.{StepReads}
 use Rattle.lzk_expr.proofs.Forms.{one_form}
 
@@ -48,11 +47,6 @@ ok_is x y e = cc
 pub only_fault : (text : List ℕ) (source : SourceTree) (e : SourceError) → SourceText text source → IsFirstSourceFault text e → e ≡ errors.OutOfMemory
 only_fault text source errors.OutOfMemory h k = refl
 only_fault text source (errors.Fault f) h k = let no = one_text text (Ok source) (Err f) h k in absurd cc
-
--- what was read is the only source
-pub only_source : (text : List ℕ) (r : Result Held SourceError) → MatchResult r (λ s. SourceText text (tree_of s)) (IsFirstSourceFault text) → (source : SourceTree) → SourceText text source → MatchResult r (λ s. tree_of s ≡ source) (λ e. e ≡ errors.OutOfMemory)
-only_source text (Ok s) h source k = ok_is (tree_of s) source (one_text text (Ok (tree_of s)) (Ok source) h k)
-only_source text (Err e) h source k = only_fault text source e k h
 
 -- ---- line by line
 

@@ -3,8 +3,8 @@ use Rattle.std.specs.Prelude.{◌≡◌, ℕ, ◌+◌, ◌≤◌, ◌<◌, Bool,
 use Rattle.std.specs.List.{list_all, list_any}
 use Rattle.lzk_profile.specs.Profile.{most_privates}
 use Rattle.lzk_expr.specs.declared.ast.FieldId.{FieldId}
-use Rattle.lzk_expr.specs.declared.printing.Place.{Place}
-use Rattle.lzk_expr.specs.declared.printing.Place.TheVariants as place
+use Rattle.lzk_expr.specs.declared.place.Place.{Place}
+use Rattle.lzk_expr.specs.declared.place.Place.TheVariants as place
 use Rattle.lzk_expr.specs.Texts.{begins}
 use Rattle.lzk_expr.specs.Tokens.{word_token, in_word}
 use Rattle.lzk_expr.specs.Tokens as token

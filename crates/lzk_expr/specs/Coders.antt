@@ -3,8 +3,8 @@ use Rattle.std.specs.Prelude.{◌≡◌, ℕ, ◌+◌, List, [], ◌∷◌, ◌+
 use Rattle.lzk_profile.specs.Profile.{most_privates}
 use Rattle.lzk_expr.specs.declared.ast.FieldId.{FieldId}
 use Rattle.lzk_expr.specs.declared.coder.Coder.{Coder}
-use Rattle.lzk_expr.specs.declared.heads.Input.{Input}
-use Rattle.lzk_expr.specs.declared.heads.Input.TheVariants as inputs
+use Rattle.lzk_expr.specs.declared.coder.Input.{Input}
+use Rattle.lzk_expr.specs.declared.coder.Input.TheVariants as inputs
 use Rattle.lzk_expr.specs.declared.tokens.Keyword.{Keyword}
 use Rattle.lzk_expr.specs.declared.tokens.Keyword.TheVariants as keys
 use Rattle.lzk_expr.specs.declared.tokens.Symbol.{Symbol}
@@ -14,10 +14,9 @@ use Rattle.lzk_expr.specs.Texts.{lines, content}
 use Rattle.lzk_expr.specs.Tokens.{Token, Key, is_empty_line}
 use Rattle.lzk_expr.specs.TokenReadings.{AreTold}
 use Rattle.lzk_expr.specs.Trees.{Statement, name_of, is_public, is_private, is_assertion}
-use Rattle.lzk_expr.specs.Sources.{Before, nothing_yet, LineReads, LinesRead, SourceText}
+use Rattle.lzk_expr.specs.Sources.{Before, nothing_yet, LineReads, LinesRead}
 use Rattle.lzk_expr.specs.Table.{found}
 use Rattle.lzk_expr.specs.Codes.{AreCodeOf, Coded, code_words}
-use Rattle.lzk_expr.specs.Heads.{Heading, headings}
 use Rattle.lzk_expr.specs.Readers.{named, is_define, step_of, FormReads, StepReads}
 
 -- This was read: the table has the declared names, the counts are those of the statements, and the words are their
@@ -64,18 +63,6 @@ pub record TakesText (text : List ℕ) (last : ℕ) (c : Coder) : Type 0 where
   pub last_is : last ≡ length (lines text)
   pub reads : LinesRead 1 nothing_yet (lines text) (Ok after)
   pub holds : IsCoder c after
-
--- All lines of a text were taken, and these are the headings of its statements.
-pub record TakesHeads (text : List ℕ) (last : ℕ) (c : Coder) (hs : List Heading) : Type 0 where
-  pub takes : TakesText text last c
-  pub heads_are : hs ≡ headings takes.after.statements
-
--- The text was taken: it is the source with these statements, and the counts are theirs.
-pub record TakesSource (text : List ℕ) (f : FieldId) (c : Coder) (ss : List Statement) : Type 0 where
-  pub reads : SourceText text (record { field_is = f; statements = ss })
-  pub publics_are : c.publics ≡ count_by is_public ss
-  pub privates_are : c.privates ≡ count_by is_private ss
-  pub asserts_are : c.asserts ≡ count_by is_assertion ss
 
 -- the code in memory, in this field
 abbrev pub coded : FieldId → Coder → Coded

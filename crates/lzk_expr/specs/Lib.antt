@@ -9,11 +9,9 @@ pub mod View
 pub mod Table
 pub mod TokenReadings
 pub mod Meanings
-pub mod Halves
 pub mod SourceValues
 pub mod Printing
 pub mod Built
-pub mod NameLists
 pub mod Readers
 pub mod SymbolForms
 pub mod Coders
@@ -23,8 +21,5 @@ pub mod Keys
 pub mod Kinds
 pub mod Codes
 pub mod CodeTexts
-pub mod Heads
-pub mod Growing
 pub mod Syntaxes
 pub mod SumWords
-pub mod TreeSteps

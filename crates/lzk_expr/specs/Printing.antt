@@ -2,8 +2,8 @@
 -- stand close.
 use Rattle.std.specs.Prelude.{ℕ, List, [], ◌∷◌, ◌++◌, Bool, true, false, codes, decimal, slice_index_or}
 use Rattle.std.specs.List.{flat_map}
-use Rattle.lzk_expr.specs.declared.printing.Place.{Place}
-use Rattle.lzk_expr.specs.declared.printing.Place.TheVariants as place
+use Rattle.lzk_expr.specs.declared.place.Place.{Place}
+use Rattle.lzk_expr.specs.declared.place.Place.TheVariants as place
 use Rattle.lzk_expr.specs.Grammar.{field_name}
 use Rattle.lzk_expr.specs.Trees.{Expr, Number, PublicInput, PrivateInput, Named, Neg, Added, Multiplied, Parts, NoPart, part, Exprs, NoExpr, factor, Statement, DeclarePublic, DeclarePrivate, Define, Assertion, SourceTree}
 

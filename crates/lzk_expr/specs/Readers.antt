@@ -1,8 +1,8 @@
 -- What a line gives, and what its form asks of its tokens.
 use Rattle.std.specs.Prelude.{◌≡◌, ℕ, List, [], ◌∷◌, ◌++◌, Bool, true, false, Option, Some, None, Result, Ok, Err, ◌&&◌}
 use Rattle.std.specs.List.{list_all}
-use Rattle.lzk_expr.specs.declared.heads.Input.{Input}
-use Rattle.lzk_expr.specs.declared.heads.Input.TheVariants as inputs
+use Rattle.lzk_expr.specs.declared.coder.Input.{Input}
+use Rattle.lzk_expr.specs.declared.coder.Input.TheVariants as inputs
 use Rattle.lzk_expr.specs.declared.names.Binding.{Binding}
 use Rattle.lzk_expr.specs.declared.tokens.Keyword.{Keyword}
 use Rattle.lzk_expr.specs.declared.tokens.Keyword.TheVariants as keys

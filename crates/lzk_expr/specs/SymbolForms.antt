@@ -33,6 +33,15 @@ pub record AreHalves (ts : List Token) (before behind : List Symbol) : Type 0 wh
   pub left_told : AreTold before left
   pub right_told : AreTold behind right
 
+-- the names among symbols
+abbrev pub with_name : Symbol → List (List ℕ) → List (List ℕ)
+with_name (symbol.Name w) ws = w.now ∷ ws
+with_name _ ws = ws
+
+abbrev pub symbol_names : List Symbol → List (List ℕ)
+symbol_names [] = []
+symbol_names (s ∷ ss) = with_name s (symbol_names ss)
+
 abbrev pub is_name_symbol : Symbol → Bool
 is_name_symbol (symbol.Name w) = true
 is_name_symbol _ = false

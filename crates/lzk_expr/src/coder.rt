@@ -15,7 +15,6 @@ ghost use Rattle.lzk_expr.specs.declared.tokens.Keyword.TheVariants.{Field, Let,
 
 use crate::ast::FieldId;
 use crate::code::Word;
-use crate::heads::Input;
 use crate::line_forms::{definition, field_of, first_keyword, halves};
 use crate::names::{Binding, Names};
 use crate::rules::Scan;
@@ -24,6 +23,13 @@ use crate::sum_words::{Marks, push_sum};
 use crate::tokens::{Keyword, Symbol};
 use lzk_profile::MOST_PRIVATES;
 use std::alloc::{AllocError, Global};
+
+// The two kinds of inputs.
+#[derive(Clone, Copy)]
+pub(crate) enum Input {
+    Public,
+    Private,
+}
 
 // What was read so far: the field, the statements' code, the declared names, and how many there are of each.
 #[derive(Drop)]

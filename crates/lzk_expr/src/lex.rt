@@ -132,9 +132,9 @@ fn lex_content<'a>(
     Ok((scan, at))
 }
 
-// Makes the list that of the tokens on the text's first line, and tells what the line keeps, and what is behind its
-// line feed.
-pub(crate) fn lex_line<'a>(
+/// Makes the list that of the tokens on the text's first line, and tells what the line keeps, and what comes after its
+/// line feed.
+pub fn lex_line<'a>(
     text: &'a [u8],
     symbols: &mut Vec<Symbol<'a>>,
 ) -> Result<(Scan, Option<&'a [u8]>), AllocError>

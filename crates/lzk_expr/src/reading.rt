@@ -20,7 +20,7 @@ use crate::tokens::Symbol;
 use std::alloc::Global;
 
 // The field of a text whose lines were taken, where the last one has this number.
-pub(crate) fn ended(coder: &Coder<'_>, last: u32) -> Result<FieldId, SourceError>
+fn ended(coder: &Coder<'_>, last: u32) -> Result<FieldId, SourceError>
     ensures { (text : List ℕ) (taken : TakesText text last coder.now) → MatchResult result
         (λ field. SourceText text (record { field_is = field; statements = taken.after.statements }))
         (IsFirstSourceFault text) }
@@ -94,7 +94,7 @@ fn code(alloc: Global, text: &Text<'_>) -> Result<Code, SourceError>
 }
 
 /// The code of the source that a text of at most 4 MiB is, by the profile in docs/FORMATS.md, or the first line that
-/// breaks a rule and the first rule that it breaks, as [`crate::parse`]. Want of memory may come at any time.
+/// breaks a rule and the first rule that it breaks. Want of memory may come at any time.
 pub fn read(alloc: Global, text: &[u8]) -> Result<Code, SourceError>
     requires { length text.now ≤ 4194304 }
     ensures code { IfOk result (IsCodeOfText text.now) }

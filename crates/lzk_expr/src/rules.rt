@@ -27,10 +27,11 @@ pub(crate) fn unopened() -> Depth
     Depth { count: 0 }
 }
 
-// What a line keeps: whether each byte is a blank or of a token, and then whether its names have at most 32 bytes
-// and at most 64 parentheses are open at any place.
+/// What a line keeps.
 #[derive(Clone, Copy)]
-pub(crate) struct Scan {
+pub struct Scan {
+    /// Whether each byte before a comment is a blank or of a token.
     pub clean: bool,
+    /// Where that is so, whether names have at most 32 bytes and at most 64 parentheses are open at any place.
     pub bounded: bool,
 }

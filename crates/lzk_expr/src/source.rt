@@ -1,15 +1,11 @@
 //! Sources.
 
-ghost use Rattle.std.specs.Prelude.{◌≡◌, length, count_by, IfOk};
-ghost use Rattle.lzk_expr.specs.Sources.{IsWellFormed, IsSource, field_size};
-ghost use Rattle.lzk_expr.specs.SourceValues.{source_value};
+ghost use Rattle.std.specs.Prelude.{◌≡◌, count_by};
+ghost use Rattle.lzk_expr.specs.Sources.{IsWellFormed, IsSource};
 ghost use Rattle.lzk_expr.specs.Trees.{is_public, is_private, is_assertion};
 ghost use Rattle.lzk_expr.specs.View.{statements_of, tree_of};
 
 use crate::ast::{FieldId, Statement};
-use crate::evaluate::assert_values;
-use lzk_field::Field;
-use std::alloc::{AllocError, Global};
 use std::marker::Model;
 
 /// A source: its field and its statements. It is well formed: some text reads as it.
@@ -42,7 +38,7 @@ impl Model for Source {
 
 impl Source {
     /// The source with these statements, which are those of some text of at most 4 MiB, and with their counts of public
-    /// inputs, private inputs and asserts. For callers that prove it; [`crate::parse`] reads a text.
+    /// inputs, private inputs and asserts. For callers that prove it; `parse` of lzk_source reads a text.
     pub fn new(
         field: FieldId,
         statements: Vec<Statement>,
@@ -97,21 +93,5 @@ impl Source {
         ensures { result ≡ count_by is_assertion (statements_of self.now.statements) }
     {
         self.asserts
-    }
-
-    /// For each assert in order the left value minus the right value, at these inputs. `F` is the source's field.
-    pub fn values<F: Field>(
-        &self,
-        alloc: Global,
-        public: &[F],
-        private: &[F],
-    ) -> Result<Vec<F>, AllocError>
-        requires field { F.coding.size ≡ field_size self.now.field_is }
-        requires publics { length public.now ≡ count_by is_public (statements_of self.now.statements) }
-        requires privates { length private.now ≡ count_by is_private (statements_of self.now.statements) }
-        ensures { IfOk result (λ v.
-            v.items ≡ source_value F.ops F.coding.element public.now private.now (statements_of self.now.statements)) }
-    {
-        assert_values(alloc, public, private, &self.statements)
     }
 }

@@ -10,26 +10,42 @@ use crate::key::are_same;
 /// The words that begin a statement line.
 #[derive(Clone, Copy)]
 pub enum Keyword {
+    /// `field`
     Field,
+    /// `public`
     Public,
+    /// `private`
     Private,
+    /// `let`
     Let,
+    /// `assert`
     Assert,
 }
 
 /// A token as it is read.
 #[derive(Clone, Copy)]
-pub(crate) enum Symbol<'a> {
+pub enum Symbol<'a> {
+    /// A number below 2^128.
     Number(u128),
+    /// A number from 2^128 on.
     Large,
+    /// A word that is neither a keyword nor begins with a digit.
     Name(&'a [u8]),
+    /// A keyword.
     Key(Keyword),
+    /// A word that begins with a digit and is no number.
     Misspelt,
+    /// `+`
     Plus,
+    /// `-`
     Minus,
+    /// `*`
     Times,
+    /// `(`
     Open,
+    /// `)`
     Close,
+    /// `=`
     Equals,
 }
 

@@ -56,9 +56,9 @@ fn compile_over<F: Field>(
     }
 }
 
-/// The reduced circuit of code in a version, with all that [`crate::compile`] says of it, or [`crate::compile_v2`],
-/// for each source that the code is of. The code is dropped as soon as its nodes are made. Want of memory may come
-/// at any time.
+/// The reduced circuit of code in a version: the nodes that the profile in docs/FORMATS.md makes of each source that
+/// the code is of, finished with a node for each assert by `finish` or `finish_v2`. The code is dropped as soon as its
+/// nodes are made. Want of memory may come at any time.
 pub fn compile_code(alloc: Global, code: Code, version: Version) -> Result<AnyCircuit, LevelError>
     ensures circuit { (source : SourceTree) → IsCodeOf code source → IfOk result (IsCompiled version source) }
     ensures within { (source : SourceTree) → IsCodeOf code source

@@ -14,13 +14,11 @@
 //!
 //! [`compile_code`] builds and finishes the nodes of a source's code. In version 1 its circuit has an output for each
 //! assert, which is left minus right on every input; in version 2, as by `finish_v2`, a node is asserted where it
-//! stands, with no copies up to the outputs. [`compile`] and [`compile_v2`] take a source's trees.
+//! stands, with no copies up to the outputs.
 #![tactic(auto)]
 
 mod asserting;
 mod builder;
-mod compiler;
-mod compiler_v2;
 mod compiling;
 mod fault;
 mod finish;
@@ -42,8 +40,6 @@ mod value;
 mod wires;
 
 pub use builder::Builder;
-pub use compiler::compile;
-pub use compiler_v2::compile_v2;
 pub use compiling::{Version, compile_code};
 pub use fault::{LevelError, LevelFault};
 pub use laws::compile_laws;

@@ -4,10 +4,10 @@ ghost use Rattle.std.specs.Prelude.{◌≤◌};
 
 use lzk_circbytes::{AnyCircuit, encode};
 use lzk_circuit::{Circuit, Values};
-use lzk_expr::parse;
 use lzk_field::Field;
 use lzk_goldilocks::Gold;
-use lzk_level::{Builder, LevelError, compile_v2};
+use lzk_level::{Builder, LevelError};
+use lzk_source::{compile_v2, parse};
 use std::alloc::{AllocError, Global};
 use std::test::Fail;
 

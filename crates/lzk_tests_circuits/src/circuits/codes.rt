@@ -1,8 +1,9 @@
 //! Circuits of sources in both versions, of their code and of their trees.
 
 use lzk_circbytes::{AnyCircuit, id};
-use lzk_expr::{parse, read};
-use lzk_level::{LevelError, LevelFault, Version, compile, compile_code, compile_v2};
+use lzk_expr::read;
+use lzk_level::{LevelError, LevelFault, Version, compile_code};
+use lzk_source::{compile, compile_v2, parse};
 use std::alloc::{AllocError, Global};
 
 // The largest text that may be read.

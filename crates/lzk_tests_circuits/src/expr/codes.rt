@@ -1,9 +1,8 @@
 //! Sources as code: the words of a text, those of its printed text, and the texts that are refused, by an independent
 //! implementation.
 
-use lzk_expr::{
-    Code, FieldId, Source, SourceError, SourceFault, SourceKind, Word, code_of, parse, read,
-};
+use lzk_expr::{Code, FieldId, Source, SourceError, SourceFault, SourceKind, Word, read};
+use lzk_source::{code_of, parse};
 use std::alloc::{AllocError, Global};
 
 // The largest text that may be read.

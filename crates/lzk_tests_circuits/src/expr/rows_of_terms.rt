@@ -1,7 +1,8 @@
 //! Rows over both fields.
 
 use lzk_circuit::Term;
-use lzk_circuit_reduce::{add_term, append, merged, scaled, single};
+use lzk_circuit_beside::{scaled, single};
+use lzk_circuit_reduce::{add_term, append, merged};
 use lzk_field::Field;
 use lzk_gf128::Gf128;
 use lzk_goldilocks::Gold;

@@ -1,7 +1,10 @@
 //! Printed sources, and the limit of names.
 
 use crate::expr::prints::PRINTS;
-use lzk_expr::{SourceError, SourceFault, SourceKind, parse, print};
+use lzk_expr::{FieldId, SourceError, SourceFault, SourceKind};
+use lzk_field::Field;
+use lzk_goldilocks::Gold;
+use lzk_source::{parse, print, values};
 use std::alloc::{AllocError, Global};
 
 // The largest text that may be read.
@@ -50,6 +53,23 @@ fn first_misprinted(alloc: Global, rows: &[(&[u8], &[u8])]) -> Option<usize> {
     None
 }
 
+// Left minus right for each assert of a text over Goldilocks, at these inputs.
+fn values_at(alloc: Global, text: &[u8], public: &[Gold], private: &[Gold]) -> Option<Vec<Gold>> {
+    if text.len() > LIMIT {
+        return None;
+    }
+    let source = parse(alloc, text).ok()?;
+    let fits = source.publics() as usize == public.len()
+        && source.privates() as usize == private.len();
+    if !fits {
+        return None;
+    }
+    match source.field() {
+        FieldId::Goldilocks => values(alloc, &source, public, private).ok(),
+        FieldId::Gf2_128 => None,
+    }
+}
+
 // A text of so many private names, each on its own line, and an assert.
 fn private_names(alloc: Global, count: u32) -> Result<Vec<u8>, AllocError> {
     let mut text = Vec::new(alloc);
@@ -82,6 +102,21 @@ fn at(line: u32, kind: SourceKind) -> Option<SourceFault> {
 #[test]
 fn sources_are_printed(rt: HostRuntime) {
     assert_eq!(rt; first_misprinted(rt.alloc(), &PRINTS), None);
+}
+
+#[test]
+fn values_are_left_minus_right(rt: HostRuntime) {
+    let square =
+        b"field goldilocks\npublic y\nprivate x\nlet z = x*x\nassert z = y\nassert y = 9\n";
+    let three = [Gold::of_word(3)];
+    for (y, wanted) in [(9, [0, 0]), (10, [18_446_744_069_414_584_320, 1])] {
+        let found = match values_at(rt.alloc(), square, &[Gold::of_word(y)], &three) {
+            Some(found) => found,
+            None => Vec::new(rt.alloc()),
+        };
+        assert_eq!(rt; found.len(), 2);
+        assert_eq!(rt; found.as_slice(), wanted.map(Gold::of_word).as_slice());
+    }
 }
 
 #[test]

@@ -1,5 +1,5 @@
 use Rattle.std.proofs.Common.{◌+◌, sym, subst, ◌∙◌, refl, Result, Ok, Err, OnOk, IfOk}
-use Rattle.lzk_expr.specs.declared.heads.Input.{Input}
+use Rattle.lzk_expr.specs.declared.coder.Input.{Input}
 use Rattle.lzk_expr.specs.Coders.{IsCoder, with_statement}
 use Rattle.lzk_expr.specs.Readers.{input_statement}
 use Rattle.lzk_expr.proofs.CodeTaken.{unknown_name, public_coded, private_coded}

@@ -1,8 +1,7 @@
 use Rattle.std.proofs.Common.{◌≡◌, ◌+◌, ◌||◌, sym, refl, ◌∙◌, true, List, ℕ, arith, drop, subst}
 use Rattle.std.specs.List.{list_all}
 use Rattle.std.proofs.lemmas.List.{at_drop_all}
-use Rattle.lzk_expr.specs.SymbolForms.{is_name_symbol}
-use Rattle.lzk_expr.specs.Heads.{symbol_names}
+use Rattle.lzk_expr.specs.SymbolForms.{is_name_symbol, symbol_names}
 use Rattle.lzk_expr.proofs.Told.{names_as}
 use Rattle.lzk_expr.proofs.CodeTaken.{coded_other, names_left, other_left, name_left, InputsTaken, inputs_more, inputs_end}
 use Rattle.lzk_expr.proofs.coder.Coder.take_inputs.Goals as goal

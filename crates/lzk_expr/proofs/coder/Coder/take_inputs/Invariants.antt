@@ -2,9 +2,8 @@ use Rattle.std.proofs.Common.{◌≡◌, ◌≤◌, ◌+◌, length, drop}
 use Rattle.std.specs.List.{list_all}
 use Rattle.lzk_profile.specs.Profile.{most_privates}
 use Rattle.lzk_expr.specs.Sources.{Before}
-use Rattle.lzk_expr.specs.SymbolForms.{is_name_symbol}
+use Rattle.lzk_expr.specs.SymbolForms.{is_name_symbol, symbol_names}
 use Rattle.lzk_expr.specs.Coders.{IsCoder, input_count, used}
-use Rattle.lzk_expr.specs.Heads.{symbol_names}
 use Rattle.lzk_expr.proofs.CodeTaken.{InputsTaken}
 use Rattle.lzk_expr.proofs.coder.Coder.take_inputs.Given as goal
 

@@ -1,0 +1,11 @@
+pub mod AddedLaws
+pub mod Completion
+pub mod Evaluating
+pub mod GrowthLaws
+pub mod HeadLaws
+pub mod ParseLaws
+pub mod Popped
+pub mod PrintLaws
+pub mod SourceCode
+pub mod TreeStepLaws
+pub mod Trees
