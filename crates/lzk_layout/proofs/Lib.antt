@@ -1,10 +1,8 @@
 pub mod Faults
 pub mod FieldLaws
-pub mod AnswerLaws
 pub mod CursorLaws
 pub mod CursorStates
 pub mod FileLaws
-pub mod FirstFaultLaws
 pub mod FrontFaults
 pub mod FrontFiles
 pub mod FrontLaws
@@ -12,7 +10,6 @@ pub mod FrontOrder
 pub mod Least
 pub mod Lengths
 pub mod OneProof
-pub mod OpenedLaws
 pub mod PartFields
 pub mod PartLaws
 pub mod PartSorts

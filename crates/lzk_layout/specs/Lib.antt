@@ -8,7 +8,6 @@ pub mod Parts
 pub mod Fronts
 pub mod Cursors
 pub mod Readings
-pub mod FirstFaults
 pub mod Files
 pub mod Answers
 pub use Rattle.lzk_circuit.specs

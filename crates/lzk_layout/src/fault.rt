@@ -24,9 +24,11 @@ pub struct ProofFault {
     pub kind: ProofKind,
 }
 
-/// The first check that failed, with how many bytes are left from its field on.
+/// The first check that failed, as the definitions of reading have it.
 #[derive(Clone, Copy)]
-pub(crate) struct Stop {
+pub struct Stop {
+    /// Bytes from the field on.
     pub left: usize,
+    /// The check that failed.
     pub kind: ProofKind,
 }

@@ -12,19 +12,14 @@
 //! let mut proof = Proof::new(alloc, &params)?;
 //! let mut bytes = vec![in alloc; 0; proof_len::<F>(&params, 0) as usize]?;
 //! encode_proof(&params, &proof, &mut bytes);
-//! if let Err(fault) = decode_proof(&params, &bytes, &mut proof) {
-//!     println!(rt; "{:?} at byte {}", fault.kind, fault.offset)?;
-//! }
 //! ```
 //!
-//! A [`Cursor`] reads the same files one byte at a time.
+//! A [`Cursor`] reads such a file one byte at a time. `decode_proof` of lzk_layout_decode reads it whole.
 #![tactic(auto)]
 
 mod cursor;
-mod decoding;
 mod encoding;
 mod fault;
-mod laws;
 mod limits;
 mod lists;
 mod params;
@@ -32,13 +27,10 @@ mod part;
 mod places;
 mod plan;
 mod proof;
-mod reading;
 
 pub use cursor::{Cursor, CursorStep};
-pub use decoding::decode_proof;
 pub use encoding::encode_proof;
-pub use fault::{ProofFault, ProofKind};
-pub use laws::fault_laws;
+pub use fault::{ProofFault, ProofKind, Stop};
 pub use limits::{BLINDS, MOST_DIGESTS, MOST_ROWS, OPENED};
 pub use lists::{Blocks, Elements, Path};
 pub use params::{Params, proof_len};
