@@ -8,14 +8,11 @@
 //! ```text
 //! let mut weights = [F::zero(); 4];
 //! eq_table(&[x, y], &mut weights);
-//! let mut room = [F::zero(); 4];
-//! let value = tilde(&[a, b, c], &[x, y], &mut room);
-//! bind(&mut weights, x);
 //! ```
+//!
+//! The value of an extension, and a table whose variables are bound one by one, stand in lzk_plain.
 #![tactic(auto)]
 
-mod binding;
 mod tables;
 
-pub use binding::{bind, tilde};
 pub use tables::eq_table;

@@ -2,7 +2,8 @@
 
 use crate::rows::Rows;
 use lzk_goldilocks::Gold;
-use lzk_poly::{Extender, RowExtend};
+use lzk_plain::Extender;
+use lzk_poly::RowExtend;
 use std::alloc::{AllocError, Global};
 
 impl RowExtend<Gold> for Rows<Gold> {

@@ -1,7 +1,7 @@
 //! What extends rows, by sums of products.
 
 use lzk_field::Field;
-use lzk_poly::Extender;
+use lzk_plain::Extender;
 use std::marker::Model;
 
 /// Extends rows by sums, with no room: the plain form beside the transforms of lzk_poly_ntt and lzk_afft, for tests. It

@@ -7,7 +7,7 @@ use crate::ground::values::{elements, mixed};
 use lzk_field::Field;
 use lzk_gf128::Gf128;
 use lzk_goldilocks::Gold;
-use lzk_poly::{Extender, eval};
+use lzk_plain::{Extender, eval};
 use std::alloc::{AllocError, Global};
 use std::test::Fail;
 

@@ -6,7 +6,8 @@ use crate::ground::values::{elements, mixed};
 use lzk_field::Field;
 use lzk_gf128::Gf128;
 use lzk_goldilocks::Gold;
-use lzk_mle::{bind, eq_table, tilde};
+use lzk_mle::eq_table;
+use lzk_plain::{bind, tilde};
 use std::alloc::{AllocError, Global};
 use std::test::Fail;
 

@@ -3,7 +3,8 @@
 ghost use Rattle.std.specs.Prelude.{◌≡◌, ◌≤◌, ◌^◌, length};
 
 use lzk_field::{Field, Seeded, Words};
-use lzk_poly::{Extender, RowExtend};
+use lzk_plain::Extender;
+use lzk_poly::RowExtend;
 use std::alloc::{AllocError, Global};
 
 /// How many values a row begins with, and the end of its points.

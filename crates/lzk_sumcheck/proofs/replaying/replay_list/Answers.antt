@@ -1,4 +1,4 @@
-use Rattle.std.proofs.Common.{◌≡◌, length, sym, ap, ◌∙◌, slice_get, arith}
+use Rattle.std.proofs.Common.{◌≡◌, length, sym, ap, ◌∙◌, slice_get}
 use Rattle.std.proofs.lemmas.List.{with_items_is}
 use Rattle.lzk_sumcheck.proofs.replaying.replay_list.Goals as goal
 
