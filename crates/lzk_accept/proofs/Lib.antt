@@ -1,5 +1,4 @@
 pub mod BoundLaws
-pub mod ClaimLaws
 pub mod CombinationLaws
 pub mod DrawLaws
 pub mod FactorLaws

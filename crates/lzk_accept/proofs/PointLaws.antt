@@ -3,7 +3,7 @@ use Rattle.std.specs.Prelude.{◌≡◌, ◌≢◌, ℕ, ◌<◌, List, [], ◌�
 use Rattle.std.proofs.Common.{refl, sym, ap, ◌∙◌}
 use Rattle.lzk_field.specs.Ring.{Ops, RingLaws, FieldLaws}
 use Rattle.lzk_field.specs.Sums.{minus}
-use Rattle.lzk_field.proofs.Solve.{var, null, unit as solo, ◌⊞◌, ◌⊠◌, solve}
+use Rattle.lzk_field.proofs.Solve.{var, unit as solo, ◌⊠◌, solve}
 use Rattle.lzk_poly.specs.Extension.{others, lagrange, IsThrough}
 use Rattle.lzk_poly.specs.Polynomial.{eval}
 use Rattle.lzk_poly.proofs.Through.{eval-through, through-only}
@@ -35,19 +35,7 @@ module _ {A : Type 0} (o : Ops A) (r : RingLaws o) (point : ℕ → A) where
       es ∙ ap (λ w. times w i) (em ∙ ap (λ w. times w b) (ea ∙ ap (minus o t) ex) ∙ ap (times (minus o t p)) (eb ∙ ap (minus o t) ey) ∙ eo)
       ∙ ap (times (others o point 3 k t)) ei
 
-  -- the next claim, of the three shares
-  pub next_is : (claim p0 p2 t s0 s1 s2 : A) → s0 ≡ lagrange o point 3 0 t → s1 ≡ lagrange o point 3 1 t → s2 ≡ lagrange o point 3 2 t
-      → plus (plus (times p0 s0) (times (minus o claim p0) s1)) (times p2 s2) ≡ next_claim o point claim p0 p2 t
-  unfolding next_claim
-  next_is claim p0 p2 t s0 s1 s2 e0 e1 e2 =
-      let d = minus o claim p0 in
-      ap (λ w. plus (plus (times p0 w) (times d s1)) (times p2 s2)) e0
-      ∙ ap (λ w. plus (plus (times p0 (lagrange o point 3 0 t)) (times d w)) (times p2 s2)) e1
-      ∙ ap (λ w. plus (plus (times p0 (lagrange o point 3 0 t)) (times d (lagrange o point 3 1 t))) (times p2 w)) e2
-      ∙ solve o r (times p0 (lagrange o point 3 0 t) ∷ times d (lagrange o point 3 1 t) ∷ times p2 (lagrange o point 3 2 t) ∷ [])
-      ((var 0 ⊞ var 1) ⊞ var 2) (((null ⊞ var 0) ⊞ var 1) ⊞ var 2) refl
-
-  -- it is the value of the one polynomial
+  -- the next claim is the value of the one polynomial
   pub next_value : FieldLaws o → (claim p0 p2 t : A) (cs : List A) → ((i j : ℕ) → i < j → j < 3 → point i ≢ point j)
       → IsThrough o point (p0 ∷ minus o claim p0 ∷ p2 ∷ []) cs → next_claim o point claim p0 p2 t ≡ eval o cs t
   unfolding next_claim

@@ -215,20 +215,24 @@ fn add_copies<F: Field>(copies: &Copies<'_, F>, table: &mut [F])
 /// The constraints of a circuit that has these parameters, with the challenges that combine them. The first `rows` rows
 /// from row 3 on hold private inputs alone.
 #[derive(Drop)]
-pub(crate) struct Combining<'a, F: Field> {
-    pub(crate) params: &'a Params,
-    pub(crate) forms: &'a Forms<F>,
-    pub(crate) challenges: &'a Challenges<F>,
-    pub(crate) rows: u32,
-    ghost bounded: { AreBounded params.now },
-    ghost drawn: { HasShape params.now challenges.now },
-    ghost filled: { (c : Wiring F) → params.now ≡ params_of c → AreFormsOf F.ops c forms.now
+pub struct Combining<'a, F: Field> {
+    /// The parameters.
+    pub params: &'a Params,
+    /// The constraints.
+    pub forms: &'a Forms<F>,
+    /// The challenges.
+    pub challenges: &'a Challenges<F>,
+    /// How many rows of private inputs are left out.
+    pub rows: u32,
+    pub ghost bounded: { AreBounded params.now },
+    pub ghost drawn: { HasShape params.now challenges.now },
+    pub ghost filled: { (c : Wiring F) → params.now ≡ params_of c → AreFormsOf F.ops c forms.now
         → rows * params.now.wr ≤ c.privates },
 }
 
 /// Combines what all constraints have from row 3 + rows on. The table is set to the coefficients of these rows, row by
 /// row. Gives the sum that is wanted of all rows.
-pub(crate) fn combine_from<F: Field>(combining: &Combining<'_, F>, table: &mut [F]) -> F
+pub fn combine_from<F: Field>(combining: &Combining<'_, F>, table: &mut [F]) -> F
     requires forms { AreFormsFor F.ops combining.now.params.now combining.now.forms.now }
     requires room { let p = combining.now.params.now in length table.old ≡ (p.nrow - 3 - combining.now.rows) * p.wr }
     ensures combined { let k = combining.now in let p = k.params.now in
@@ -260,35 +264,4 @@ pub(crate) fn combine_from<F: Field>(combining: &Combining<'_, F>, table: &mut [
     };
     add_copies(&copies, table);
     wanted
-}
-
-/// Combines all constraints into one, with the challenges as factors. `a` is set to the coefficients of what stands in
-/// the rows, row by row from row 3 on: of the linear constraints at the committed entries, and of each copy, at its
-/// place, less at the entry that it copies. Gives the sum that is wanted of them. No memory is taken. It is the plain
-/// form beside `combine_factored`, for tests.
-pub fn combine<F: Field>(
-    params: &Params,
-    forms: &Forms<F>,
-    challenges: &Challenges<F>,
-    a: &mut [F],
-) -> F
-    requires bounded { AreBounded params.now }
-    requires forms { AreFormsFor F.ops params.now forms.now }
-    requires shape { HasShape params.now challenges.now }
-    requires room { length a.old ≡ (params.now.nrow - 3) * params.now.wr }
-    ensures room { length a.new ≡ length a.old }
-    ensures combined { (c : Wiring F) → params.now ≡ params_of c → AreFormsOf F.ops c forms.now → (i s : ℕ)
-        → i < params.now.nrow - 3 → s < params.now.wr
-        → entry F.ops a.new (i * params.now.wr + s)
-        ≡ spec.combined F.ops c (coefficient F.ops forms.now) challenges.now (3 + i) s }
-    ensures wanted { (c : Wiring F) → params.now ≡ params_of c → AreFormsOf F.ops c forms.now →
-        result ≡ spec.wanted F.ops c (right F.ops forms.now) challenges.now }
-{
-    let combining = Combining {
-        params,
-        forms,
-        challenges,
-        rows: 0,
-    };
-    combine_from(&combining, a)
 }

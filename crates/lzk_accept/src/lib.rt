@@ -4,28 +4,29 @@
 //! private inputs are committed to. For a list of pads and private inputs each layer, and the input layer behind them,
 //! leaves a residual, which is affine in the list and zero for the list of an honest prover. A proof shows that the
 //! residuals are zero, by one sum of all of them with drawn factors.
+//!
+//! Some steps and what they are handed are public for the plain forms, which stand in `lzk_residual`.
 #![tactic(auto)]
 
-mod bound;
 mod challenges;
 mod claims;
 mod combination;
 mod exchange;
 mod factored;
 mod forms;
-mod inputs;
 mod linear;
 mod points;
 mod prepared;
-mod residuals;
 mod rounds;
 mod tables;
 mod terms;
 
 pub use challenges::{Challenges, draw_challenges};
-pub use combination::combine;
+pub use claims::{layer_of, points_on};
+pub use combination::{Combining, combine_from};
+pub use exchange::{Exchange, Scripted};
 pub use factored::{Factored, combine_factored, combine_with_bounds};
 pub use forms::{Form, Forms};
-pub use linear::linear_forms;
-pub use points::next_claim;
-pub use residuals::residual;
+pub use linear::rest_forms;
+pub use points::{Shares, ThreePoints};
+pub use rounds::round_challenge;

@@ -6,23 +6,21 @@ ghost use Rattle.lzk_mle.specs.Multilinear.{eq};
 ghost use Rattle.lzk_circuit.specs.Bits.{bits};
 ghost use Rattle.lzk_circuit.specs.Valid.{IsValid};
 ghost use Rattle.lzk_layout.specs.Places.{depth, pads_at, factors_at, places_of, AreWithin};
-ghost use Rattle.lzk_layout.specs.Sizes.{sent_counts, committed_count};
+ghost use Rattle.lzk_layout.specs.Sizes.{committed_count};
 ghost use Rattle.lzk_sumcheck.specs.Coefficients.{coefficients, bound_at, AreBounds};
-ghost use Rattle.lzk_sumcheck.specs.Script.{layer_at, point_a, point_b, HasShape};
-ghost use Rattle.lzk_accept.specs.Kept.{form_at, coefficient, right, above_a, above_b, below_top, IsPlacedAt, ArePlaced, IsConstraint, AreFormsOf, AreRest, IsLastForm};
-ghost use Rattle.lzk_accept.specs.Residuals.{linear_coefficient, right_side};
+ghost use Rattle.lzk_sumcheck.specs.Script.{layer_at, point_a, point_b};
+ghost use Rattle.lzk_accept.specs.Kept.{form_at, above_a, above_b, below_top, IsPlacedAt, ArePlaced, IsConstraint, AreFormsOf, AreRest, IsLastForm};
 
 use crate::claims::layer_of;
-use crate::exchange::{Exchange, Scripted};
+use crate::exchange::Exchange;
 use crate::forms::{Form, Forms};
 use crate::points::ThreePoints;
 use crate::prepared::{Prepared, Turn};
 use crate::rounds::{Claim, LayerRounds, claim_form};
 use crate::tables::{set_bounds, set_input_tables};
-use lzk_circuit::Circuit;
 use lzk_field::Field;
 use lzk_layout::LayerPlaces;
-use lzk_sumcheck::{Script, entry_at};
+use lzk_sumcheck::entry_at;
 use std::alloc::AllocError;
 
 /// The two factors that a layer sends, or zeros where there is no layer.
@@ -302,7 +300,7 @@ fn fill_forms<F: Field>(prepared: &Prepared<'_, '_, '_, F>, forms: &mut [Form<F>
 /// Sets the forms to the linear constraints, but for the coefficients of the inputs' constraint at the first `skip`
 /// private inputs. They are how these inputs' wires agree with the inputs' two points, and no layer's constraint has
 /// them.
-pub(crate) fn rest_forms<F: Field>(exchange: Exchange<'_, F>, skip: usize, forms: &mut Forms<F>)
+pub fn rest_forms<F: Field>(exchange: Exchange<'_, F>, skip: usize, forms: &mut Forms<F>)
     requires skip { skip ≤ exchange.scripted.circuit.now.privates }
     requires made { AreFormsOf F.ops exchange.scripted.circuit.now forms.old }
     ensures made { AreFormsOf F.ops exchange.entry.scripted.circuit.now forms.new }
@@ -351,35 +349,4 @@ pub(crate) fn rest_with_bounds<F: Field>(
         skip,
     };
     fill_forms(&prepared, &mut forms.forms, &mut forms.own);
-}
-
-/// Sets the forms to the coefficients and right sides of all linear constraints: what the sumchecks' residuals are less
-/// at a list of pads and private inputs. No memory is taken. It is the plain form beside `combine_factored`, for tests.
-pub fn linear_forms<'a, F: Field>(
-    circuit: &'a Circuit<F>,
-    public: &'a [F],
-    script: &'a Script<F>,
-    messages: &'a [F],
-    forms: &mut Forms<F>,
-)
-    requires public { length public.now ≡ circuit.now.publics }
-    requires shape { HasShape circuit.now script.now }
-    requires messages { length messages.now ≡ sent_counts circuit.now }
-    requires made { AreFormsOf F.ops circuit.now forms.old }
-    ensures made { AreFormsOf F.ops circuit.now forms.new }
-    ensures coefficients { let q = coefficients F.ops circuit.now script.now in
-        (i j : ℕ) → i < depth circuit.now + 1 → j < committed_count circuit.now
-        → coefficient F.ops forms.new i j
-        ≡ linear_coefficient F.ops F.coding.element circuit.now q public.now script.now messages.now i j }
-    ensures rights { let q = coefficients F.ops circuit.now script.now in
-        (i : ℕ) → i < depth circuit.now + 1
-        → right F.ops forms.new i
-        ≡ right_side F.ops F.coding.element circuit.now q public.now script.now messages.now i }
-{
-    let exchange = Exchange {
-        scripted: Scripted { circuit, script },
-        public,
-        messages,
-    };
-    rest_forms(exchange, 0, forms);
 }

@@ -1,10 +1,7 @@
 //! Polynomials with three coefficients, by their values at the first three points.
 
-ghost use Rattle.std.specs.Prelude.{◌≡◌, ◌≢◌, List, [], ◌∷◌};
+ghost use Rattle.std.specs.Prelude.{◌≡◌, ◌≢◌};
 ghost use Rattle.lzk_field.specs.Sums.{minus};
-ghost use Rattle.lzk_poly.specs.Extension.{IsThrough};
-ghost use Rattle.lzk_poly.specs.Polynomial.{eval};
-ghost use Rattle.lzk_accept.specs.Residuals.{next_claim};
 ghost use Rattle.lzk_accept.specs.Points.{AreInverses, AreShares};
 
 use lzk_field::Field;
@@ -23,7 +20,7 @@ fn inverse_of<F: Field>(x: F) -> F
 /// For each of the first three points, the inverse of the product of its differences to the other two. They depend on
 /// the field alone, so rounds that are gone through together pay no inversion each.
 #[derive(Drop)]
-pub(crate) struct ThreePoints<F: Field> {
+pub struct ThreePoints<F: Field> {
     pub(crate) first: F,
     pub(crate) second: F,
     pub(crate) third: F,
@@ -32,10 +29,13 @@ pub(crate) struct ThreePoints<F: Field> {
 
 /// What the values at the three points count for in the polynomial's value at another: Lagrange's polynomials there.
 #[derive(Copy)]
-pub(crate) struct Shares<F> {
-    pub(crate) first: F,
-    pub(crate) second: F,
-    pub(crate) third: F,
+pub struct Shares<F> {
+    /// The first value counts for so much.
+    pub first: F,
+    /// The second one.
+    pub second: F,
+    /// The third one.
+    pub third: F,
 }
 
 impl<F: Copy> Clone for Shares<F> {
@@ -56,7 +56,8 @@ fn apart<F: Field>(x: F, u: F, v: F) -> F
 }
 
 impl<F: Field> ThreePoints<F> {
-    pub(crate) fn new() -> ThreePoints<F> {
+    /// What is kept of the three points.
+    pub fn new() -> ThreePoints<F> {
         let x0 = F::point(0);
         let x1 = F::point(1);
         let x2 = F::point(2);
@@ -68,7 +69,7 @@ impl<F: Field> ThreePoints<F> {
     }
 
     /// What the three values count for at `t`.
-    pub(crate) fn shares(&self, t: F) -> Shares<F>
+    pub fn shares(&self, t: F) -> Shares<F>
         ensures { AreShares F.ops F.coding.element t result }
     {
         let d0 = t.sub(F::point(0));
@@ -80,26 +81,4 @@ impl<F: Field> ThreePoints<F> {
             third: d0.mul(d1).mul(self.third),
         }
     }
-
-    /// The claim after a round.
-    pub(crate) fn next_claim(&self, claim: F, p0: F, p2: F, t: F) -> F
-        ensures { result ≡ next_claim F.ops F.coding.element claim p0 p2 t }
-    {
-        let shares = self.shares(t);
-        let first = p0.mul(shares.first);
-        let second = claim.sub(p0).mul(shares.second);
-        let third = p2.mul(shares.third);
-        first.add(second).add(third)
-    }
-}
-
-/// The claim after a round whose values at points 0 and 2 are `p0` and `p2`, those at points 0 and 1 adding up to the
-/// claim before it, at the round's challenge `t`.
-pub fn next_claim<F: Field>(claim: F, p0: F, p2: F, t: F) -> F
-    ensures value { result ≡ next_claim F.ops F.coding.element claim p0 p2 t }
-    ensures polynomial { (coefficients : List F)
-        → IsThrough F.ops F.coding.element (p0 ∷ minus F.ops claim p0 ∷ p2 ∷ []) coefficients
-        → result ≡ eval F.ops coefficients t }
-{
-    ThreePoints::new().next_claim(claim, p0, p2, t)
 }

@@ -57,7 +57,7 @@ fn round_back<F: Field>(
 }
 
 /// The challenge of round n of a layer: the rounds are for bit 0 of a, bit 0 of b, bit 1 of a and so on.
-pub(crate) fn round_challenge<F: Field>(layer: &LayerScript<F>, n: usize) -> F
+pub fn round_challenge<F: Field>(layer: &LayerScript<F>, n: usize) -> F
     ensures { result ≡ challenge_of F.ops layer.now n }
 {
     if n % 2 == 0 {

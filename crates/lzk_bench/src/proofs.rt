@@ -10,7 +10,8 @@ use crate::scripts::file_of;
 use lzk_circbytes::{AnyCircuit, decode};
 use lzk_circuit::{Circuit, Layer, Terms};
 use lzk_field::Field;
-use lzk_layout::{Elements, Params, Path, Proof, decode_proof, encode_proof, proof_len};
+use lzk_layout::{Elements, Params, Path, Proof, encode_proof, proof_len};
+use lzk_layout_decode::decode_proof;
 use std::alloc::{AllocError, Global};
 use std::rt::Files;
 

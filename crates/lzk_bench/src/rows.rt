@@ -1,7 +1,7 @@
 //! Rows that are extended.
 
 use lzk_field::Field;
-use lzk_poly::Extender;
+use lzk_plain::Extender;
 use std::alloc::{AllocError, Global};
 
 /// The values that a row begins with.

@@ -8,12 +8,14 @@ ghost use Rattle.lzk_sumcheck.specs.Script.{HasShape};
 ghost use Rattle.lzk_accept.specs.Challenges as accept;
 ghost use Rattle.lzk_accept.specs.Kept.{AreFormsOf};
 
-use lzk_accept::{Challenges, Forms, combine, draw_challenges, linear_forms};
+use lzk_accept::{Challenges, Forms, draw_challenges};
 use lzk_circbytes::{AnyCircuit, decode};
 use lzk_circuit::Circuit;
 use lzk_expr::read_numbers;
 use lzk_field::Field;
-use lzk_layout::{Elements, Params, Proof, decode_proof};
+use lzk_layout::{Elements, Params, Proof};
+use lzk_layout_decode::decode_proof;
+use lzk_residual::{combine, linear_forms};
 use lzk_sumcheck::{LayerScript, Script, message_count, replay};
 use lzk_transcript::Tape;
 use std::alloc::{AllocError, Global};

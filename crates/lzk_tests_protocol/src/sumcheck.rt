@@ -1,5 +1,5 @@
-//! Tests of `lzk_sumcheck` and `lzk_accept`: the worked rows, and what an independent implementation combines of
-//! constraints.
+//! Tests of `lzk_sumcheck`, `lzk_accept` and `lzk_residual`: the worked rows, and what an independent implementation
+//! combines of constraints.
 //!
 //! They stand above what they test, so that a generic crate lists no field and a field's change proves
 //! none of them again. Whole proofs beside an independent implementation stand in `lzk_tests_runs`.

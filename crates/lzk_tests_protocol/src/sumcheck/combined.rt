@@ -8,13 +8,14 @@ ghost use Rattle.lzk_accept.specs.Kept.{AreFormsOf};
 
 use crate::sumcheck::combined_vectors::{ASSERTING, COMBINED};
 use crate::sumcheck::shared::{Drawn, Shape, asserting_circuit_of, circuit_of, draw, undrawn};
-use lzk_accept::{Forms, combine, linear_forms};
+use lzk_accept::Forms;
 use lzk_circuit::Circuit;
 use lzk_field::Field;
 use lzk_gf128::Gf128;
 use lzk_goldilocks::Gold;
 use lzk_layout::{Elements, Params};
-use lzk_poly::eval;
+use lzk_plain::eval;
+use lzk_residual::{combine, linear_forms};
 use std::alloc::{AllocError, Global};
 use std::test::Fail;
 

@@ -5,12 +5,13 @@ ghost use Rattle.lzk_goldilocks.specs.Elements.{number};
 ghost use Rattle.lzk_circuit.specs.Checks.{HasRoom};
 
 use crate::sumcheck::shared::{SQUARE, Shape, asserting_circuit_of, circuit_of, elements};
-use lzk_accept::next_claim;
 use lzk_circuit::{Circuit, Values, bits_of};
 use lzk_field::Field;
 use lzk_gf128::Gf128;
 use lzk_goldilocks::Gold;
-use lzk_sumcheck::{entry_at, plain_round, sumcheck_laws};
+use lzk_plain::plain_round;
+use lzk_residual::next_claim;
+use lzk_sumcheck::{entry_at, sumcheck_laws};
 use std::alloc::{AllocError, Global};
 use std::test::Fail;
 

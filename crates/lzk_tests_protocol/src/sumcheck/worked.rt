@@ -9,11 +9,12 @@ ghost use Rattle.lzk_accept.specs.Kept.{AreFormsOf};
 
 use crate::sumcheck::combined::{Combined, combine_rows, uncombined};
 use crate::sumcheck::shared::{Drawn, SQUARE, circuit_of, elements, undrawn};
-use lzk_accept::{Forms, residual};
+use lzk_accept::Forms;
 use lzk_circuit::{Circuit, bits_of};
 use lzk_field::Field;
 use lzk_goldilocks::Gold;
 use lzk_layout::{Elements, Params};
+use lzk_residual::residual;
 use lzk_sumcheck::{LayerScript, LayerScripts, Script};
 use std::alloc::{AllocError, Global};
 use std::test::Fail;

@@ -1,0 +1,4 @@
+mod BoundLaws
+mod ClaimLaws
+mod PointLaws
+mod ResidualLaws
