@@ -8,9 +8,10 @@ ghost use Rattle.lzk_circuit_reduce.specs.Renumbering.{AreNumbersBelow, AreCopie
 ghost use Rattle.lzk_circuit_beside.specs.Asserts.{AreLone, HasLone};
 ghost use Rattle.lzk_circuit.specs.Limits.{most_width};
 
+use crate::multiples::single;
 use crate::row::set_row;
 use lzk_circuit::{Layer, Term, Terms};
-use lzk_circuit_reduce::{append, end_of, single};
+use lzk_circuit_reduce::{append, end_of};
 use lzk_field::Field;
 use std::alloc::{AllocError, Global};
 

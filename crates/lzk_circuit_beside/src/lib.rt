@@ -3,7 +3,8 @@
 //! A statement is often made of parts that share inputs: a hash of a message beside claims about the
 //! message's bits. [`beside`] lays two circuits of version 1 side by side. The outputs of the whole are those of
 //! the first part and then those of the second, each over the inputs that it chose. [`beside_any`] does so with
-//! circuits of either version, which may assert within their layers. A caller writes
+//! circuits of either version, which may assert within their layers. [`single`] and [`scaled`] make rows for layers
+//! that are written by hand. A caller writes
 //!
 //! ```text
 //! let first = Part { circuit: &statement, places: &[1, 2, 3] };
@@ -17,9 +18,11 @@ mod error;
 mod joining;
 mod layer;
 mod level;
+mod multiples;
 mod part;
 mod row;
 
 pub use error::BesideError;
 pub use joining::{beside, beside_any};
+pub use multiples::{scaled, single};
 pub use part::{AnyPart, Part};

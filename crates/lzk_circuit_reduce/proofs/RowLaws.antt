@@ -1,10 +1,10 @@
 -- Rows of terms: multiples, sums and what they count.
-use Rattle.std.specs.Prelude.{◌≡◌, ◌≢◌, ℕ, ◌+◌, ◌<◌, ◌≤◌, ◌==◌, ◌&&◌, ◌||◌, nat_lt, Bool, true, IsTrue, Option, Some, None, List, [], ◌∷◌, ◌++◌, length, map, take}
+use Rattle.std.specs.Prelude.{◌≡◌, ◌≢◌, ℕ, ◌+◌, ◌<◌, ◌≤◌, ◌==◌, ◌&&◌, ◌||◌, nat_lt, Bool, true, Option, Some, None, List, [], ◌∷◌, ◌++◌, length, map, take}
 use Rattle.std.proofs.Common.{◌⊎◌, inl, inr, refl, sym, ap, ◌∙◌, arith, subst, get_or}
 use Rattle.std.proofs.lemmas.Bool.{or_cases, or_left, or_right, and_parts, ltb-true, lt-ltb, eqb-true, eq-eqb}
 use Rattle.std.proofs.lemmas.List.{map-append, take_more, take_all}
-use Rattle.lzk_field.specs.Ring.{Ops, RingLaws, FieldLaws}
-use Rattle.lzk_field.proofs.RingBasics.{zero_plus, times_zero, product_nonzero}
+use Rattle.lzk_field.specs.Ring.{Ops, RingLaws}
+use Rattle.lzk_field.proofs.RingBasics.{zero_plus, times_zero}
 use Rattle.lzk_circuit.specs.declared.layer.Term.{Term}
 use Rattle.lzk_circuit.specs.Valid.{precedes, follows, AreTerms}
 use Rattle.lzk_circuit_reduce.specs.Rows.{IsRow, row_value, term_value, multiplied, Less, added}
@@ -18,23 +18,6 @@ module _ {A : Type 0} (o : Ops A) (r : RingLaws o) where
       ap (λ w. plus w (row_value o below (map (multiplied o c) ts))) (r.times_assoc c t.coef _)
       ∙ ap (plus (times c (term_value o below t))) (multiple-value c below ts)
       ∙ sym (r.times_plus c (term_value o below t) (row_value o below ts))
-
-  abbrev multiplied_before : A → Option (Term A) → Option (Term A)
-  multiplied_before c None = None
-  multiplied_before c (Some t) = Some (multiplied o c t)
-
-  multiple-follows : (c : A) (before : Option (Term A)) (t : Term A) → IsTrue (follows before t) → IsTrue (follows (multiplied_before c before) (multiplied o c t))
-  multiple-follows c None t h = h
-  multiple-follows c (Some s) t h = h
-
-  multiple-terms : FieldLaws o → (c : A) → c ≢ o.zero → (wires width : ℕ) (before : Option (Term A)) (row : List (Term A)) → AreTerms o wires width before row → AreTerms o wires width (multiplied_before c before) (map (multiplied o c) row)
-  multiple-terms f c nz wires width before [] h = tt
-  multiple-terms f c nz wires width before (t ∷ ts) h =
-      let one = h.0 in
-      (record { g = one.g; a = one.a; b = one.b; coef = product_nonzero o r f c t.coef nz one.coef }, multiple-follows c before t h.1, multiple-terms f c nz wires width (Some t) ts h.2)
-
-  pub multiple-row : FieldLaws o → (c : A) → c ≢ o.zero → (width : ℕ) (row : List (Term A)) → IsRow o width row → IsRow o width (map (multiplied o c) row)
-  multiple-row f c nz width row h = multiple-terms f c nz 1 width None row h
 
   pub value-append : (below : List A) (xs ys : List (Term A)) → row_value o below (xs ++ ys) ≡ plus (row_value o below xs) (row_value o below ys)
   value-append below [] ys = sym (zero_plus o r (row_value o below ys))

@@ -4,8 +4,7 @@
 //! which no inner wire is there twice, or for nothing (the profile in docs/FORMATS.md). A caller writes
 //!
 //! ```text
-//! let product = single(alloc, coef, a, b)?;
-//! let row = merged(alloc, &scaled(alloc, factor, &product)?, &other)?;
+//! let row = merged(alloc, &[term_of(coef, a, b)], &other)?;
 //! append(&mut terms, g, &row)?;
 //! let layers = reduced(alloc, inputs, &layers)?;
 //! ```
@@ -32,5 +31,5 @@ pub use kept::{KeptWires, none_kept, wire_of};
 pub use laws::reduce_laws;
 pub use reduce::{reduced, used};
 pub use renumber::end_of;
-pub use rows::{append, merged, scaled, single};
+pub use rows::{append, is_zero, merged, term_of};
 pub use targets::Targets;

@@ -1,6 +1,6 @@
 //! Rows: the terms of one wire, ascending, each with wire number 0.
 
-ghost use Rattle.std.specs.Prelude.{◌≡◌, ◌≢◌, ℕ, ◌+◌, ◌<◌, ◌≤◌, List, [], ◌∷◌, ◌++◌, length, map, vec_len, vec_capacity, IfOk, None, true, false};
+ghost use Rattle.std.specs.Prelude.{◌≡◌, ◌≢◌, ℕ, ◌+◌, ◌<◌, ◌≤◌, List, ◌++◌, length, map, vec_len, vec_capacity, IfOk, None, true, false};
 ghost use Rattle.lzk_field.specs.Sums.{entry};
 ghost use Rattle.lzk_circuit_reduce.specs.Renumbering.{at};
 ghost use Rattle.lzk_circuit_reduce.specs.Rows.{IsRow, IsUnder, AreUnder, IsNext, row_value, term_value, ordered, placed};
@@ -12,7 +12,7 @@ use lzk_field::Field;
 use std::alloc::{AllocError, Global};
 
 /// Whether an element is 0.
-pub(crate) fn is_zero<F: Field>(x: F) -> bool
+pub fn is_zero<F: Field>(x: F) -> bool
     ensures yes { result ≡ true → x ≡ F.ops.zero }
     ensures no { result ≡ false → x ≢ F.ops.zero }
 {
@@ -20,7 +20,7 @@ pub(crate) fn is_zero<F: Field>(x: F) -> bool
 }
 
 /// The term that counts `coef` times wires `a` and `b`.
-pub(crate) fn term_of<F: Field>(coef: F, a: u32, b: u32) -> Term<F>
+pub fn term_of<F: Field>(coef: F, a: u32, b: u32) -> Term<F>
     ensures wire { result.g ≡ 0 }
     ensures coef { result.coef ≡ coef }
     ensures order { result.a ≤ result.b }
@@ -39,54 +39,6 @@ pub(crate) fn term_of<F: Field>(coef: F, a: u32, b: u32) -> Term<F>
         b: a,
         coef,
     }
-}
-
-/// One term, or none where the coefficient is zero.
-pub fn single<F: Field>(alloc: Global, coef: F, a: u32, b: u32) -> Result<Vec<Term<F>>, AllocError>
-    ensures row { (width : ℕ) → a < width → b < width → IfOk result (λ row. IsRow F.ops width row.items) }
-    ensures value { (below : List F) → IfOk result (λ row. row_value F.ops below row.items ≡
-        F.ops.times coef (F.ops.times (entry F.ops below a) (entry F.ops below b))) }
-    ensures short { IfOk result (λ row. length row.items ≤ 1) }
-    ensures under { (ns : List ℕ) (d : ℕ) → at ns a < d → at ns b < d → IfOk result (λ row. AreUnder ns d row.items) }
-    ensures exact { coef ≢ F.ops.zero → IfOk result (λ row. row.items ≡ ordered coef a b ∷ []) }
-{
-    if is_zero(coef) {
-        return Ok(Vec::new(alloc));
-    }
-    let Ok(mut row) = Vec::with_capacity(alloc, 1) else {
-        return Err(AllocError);
-    };
-    row.push_reserved(term_of(coef, a, b));
-    Ok(row)
-}
-
-/// `factor` times a row.
-pub fn scaled<F: Field>(
-    alloc: Global,
-    factor: F,
-    row: &[Term<F>],
-) -> Result<Vec<Term<F>>, AllocError>
-    ensures row { (width : ℕ) → IsRow F.ops width row.now → IfOk result (λ multiple. IsRow F.ops width multiple.items) }
-    ensures value { (below : List F)
-        → IfOk result
-        (λ multiple. row_value F.ops below multiple.items ≡ F.ops.times factor (row_value F.ops below row.now)) }
-    ensures short { IfOk result (λ multiple. length multiple.items ≤ length row.now) }
-    ensures under { (ns : List ℕ) (d : ℕ) → AreUnder ns d row.now
-        → IfOk result (λ multiple. AreUnder ns d multiple.items) }
-{
-    if is_zero(factor) {
-        return Ok(Vec::new(alloc));
-    }
-    let Ok(mut multiple) = Vec::with_capacity(alloc, row.len()) else {
-        return Err(AllocError);
-    };
-    for term in row {
-        multiple.push_reserved(Term {
-            coef: factor.mul(term.coef),
-            ..*term
-        });
-    }
-    Ok(multiple)
 }
 
 // Appends the earlier of two terms, or what both add up to where they stand at one place, and tells how

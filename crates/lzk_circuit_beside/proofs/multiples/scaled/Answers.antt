@@ -3,8 +3,9 @@ use Rattle.std.proofs.lemmas.List.{length-map, length-take}
 use Rattle.std.proofs.lemmas.List.Elements.{All-map}
 use Rattle.lzk_field.proofs.RingBasics.{zero_times}
 use Rattle.lzk_circuit_reduce.specs.Rows.{multiplied, row_value, IsRow, IsUnder, AreUnder}
-use Rattle.lzk_circuit_reduce.proofs.RowLaws.{multiple-value, multiple-row, map-more, all-mapped}
-use Rattle.lzk_circuit_reduce.proofs.rows.scaled.Goals as goal
+use Rattle.lzk_circuit_reduce.proofs.RowLaws.{multiple-value, map-more, all-mapped}
+use Rattle.lzk_circuit_beside.proofs.MultipleLaws.{multiple-row}
+use Rattle.lzk_circuit_beside.proofs.multiples.scaled.Goals as goal
 
 pub returns-then-is_zero-clause-value : goal.returns-then-is_zero-clause-value
 returns-then-is_zero-clause-value g c below =

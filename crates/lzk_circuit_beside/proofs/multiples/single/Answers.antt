@@ -4,7 +4,7 @@ use Rattle.lzk_field.specs.Sums.{entry}
 use Rattle.lzk_field.proofs.RingBasics.{zero_times}
 use Rattle.lzk_circuit_reduce.specs.Rows.{IsRow, IsUnder, AreUnder, row_value, term_value}
 use Rattle.lzk_circuit_reduce.proofs.RowLaws.{row-of-one}
-use Rattle.lzk_circuit_reduce.proofs.rows.single.Goals as goal
+use Rattle.lzk_circuit_beside.proofs.multiples.single.Goals as goal
 
 none-short : 0 ≤ 1
 none-short = omega arith
